@@ -1,0 +1,6 @@
+-- General definitions: nothing of boards.
+pub mod Search
+pub mod Fault
+pub mod First
+pub mod Listing
+pub mod Digit
