@@ -4,3 +4,5 @@ pub mod Fault
 pub mod First
 pub mod Listing
 pub mod Digit
+pub mod Same
+pub mod Pad

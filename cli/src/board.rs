@@ -1,0 +1,151 @@
+//! The library's call, and the board that it accepts.
+
+use crate::fdt::Tables;
+use crate::messages;
+
+const ANSWER_WORDS: usize = 10;
+const ROW_WORDS: usize = 12;
+const MOST_CPUS: usize = 256;
+const GAP: u32 = u32::MAX;
+
+extern "C" {
+    fn sunderwath_read_tables(
+        width: u32,
+        nodes: *const u32,
+        n: usize,
+        props: *const u32,
+        p: usize,
+        pool: *const u8,
+        bytes: usize,
+        rows: *mut u32,
+        words: usize,
+        answer: *mut u32,
+        a: usize,
+    ) -> u32;
+}
+
+/// The rule broken and where.
+#[derive(Clone, Copy, Debug, PartialEq, Eq)]
+pub struct Refusal {
+    pub number: u32,
+    pub place: u32,
+}
+
+/// One processor.
+#[derive(Clone, Debug, PartialEq, Eq)]
+pub struct Row {
+    pub leaf: u32,
+    pub cpu: u32,
+    pub mpidr: u64,
+    pub socket: Option<u32>,
+    pub clusters: Vec<u32>,
+    pub core: u32,
+    pub thread: Option<u32>,
+    pub slot: u32,
+}
+
+/// What the library answers on acceptance.
+#[derive(Clone, Debug, PartialEq, Eq)]
+pub struct Board {
+    pub width: u32,
+    pub mask: u64,
+    pub shifts: [u32; 4],
+    pub bits: u32,
+    pub rows: Vec<Row>,
+}
+
+fn number_or_none(word: u32) -> Option<u32> {
+    (word != GAP).then_some(word)
+}
+
+fn wide(upper: u32, lower: u32) -> u64 {
+    u64::from(upper) << 32 | u64::from(lower)
+}
+
+fn row(words: &[u32]) -> Row {
+    let path = words[5..9].iter().copied();
+    Row {
+        leaf: words[0],
+        cpu: words[1],
+        mpidr: wide(words[2], words[3]),
+        socket: number_or_none(words[4]),
+        clusters: path.filter_map(number_or_none).collect(),
+        core: words[9],
+        thread: number_or_none(words[10]),
+        slot: words[11],
+    }
+}
+
+/// Reads the tables of a board of the given width.
+pub fn read(width: u32, tables: &Tables) -> Result<Board, Refusal> {
+    let mut rows = vec![0; ROW_WORDS * MOST_CPUS];
+    let mut answer = [0; ANSWER_WORDS];
+    let Tables {
+        nodes, props, pool, ..
+    } = tables;
+    // SAFETY: each pointer comes with the length of its own vector or array,
+    // and the two that are written are borrowed from nothing else.
+    let number = unsafe {
+        sunderwath_read_tables(
+            width,
+            nodes.as_ptr(),
+            nodes.len(),
+            props.as_ptr(),
+            props.len(),
+            pool.as_ptr(),
+            pool.len(),
+            rows.as_mut_ptr(),
+            rows.len(),
+            answer.as_mut_ptr(),
+            answer.len(),
+        )
+    };
+    if number != 0 {
+        let place = answer[1];
+        return Err(Refusal { number, place });
+    }
+    let count = answer[2] as usize;
+    Ok(Board {
+        width,
+        mask: wide(answer[4], answer[3]),
+        shifts: [answer[5], answer[6], answer[7], answer[8]],
+        bits: answer[9],
+        rows: rows.chunks(ROW_WORDS).take(count).map(row).collect(),
+    })
+}
+
+/// The node, and for 7 and 8 the property, that a refusal speaks of.
+fn place(tables: &Tables, refusal: Refusal) -> String {
+    let Refusal { number, place } = refusal;
+    match number {
+        7 | 8 => {
+            let node = tables.path(tables.property_node(place));
+            format!("{node}: {}", tables.property_name(place))
+        }
+        _ => tables.path(place),
+    }
+}
+
+/// Sizes that help where a limit is passed.
+fn size(tables: &Tables, number: u32) -> String {
+    match number {
+        2 => format!(" ({} nodes)", tables.node_count()),
+        3 => format!(" ({} properties)", tables.property_count()),
+        4 => format!(" ({} bytes)", tables.pool.len()),
+        _ => String::new(),
+    }
+}
+
+/// `ERROR 21 (cpu_map_order): /cpus/cpu-map/cluster0/core6: sentence`
+pub fn describe(tables: &Tables, refusal: Refusal) -> String {
+    let (check, sentence) = match messages::find(refusal.number) {
+        Some(message) => (message.check, message.sentence),
+        None => ("unknown", "a number that this program does not know"),
+    };
+    format!(
+        "ERROR {} ({check}): {}: {sentence}{}",
+        refusal.number,
+        place(tables, refusal),
+        size(tables, refusal.number)
+    )
+}

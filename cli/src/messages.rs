@@ -1,0 +1,197 @@
+//! What each number means, in one table.
+
+pub struct Message {
+    pub number: u32,
+    /// A name that stays the same, as dtc's check names do.
+    pub check: &'static str,
+    pub sentence: &'static str,
+}
+
+const fn message(number: u32, check: &'static str, sentence: &'static str) -> Message {
+    Message {
+        number,
+        check,
+        sentence,
+    }
+}
+
+pub const MESSAGES: [Message; 31] = [
+    message(0, "accepted", "the board is accepted"),
+    message(1, "board_width", "the width is neither 32 nor 64"),
+    message(
+        2,
+        "node_table_size",
+        "the subtree does not have 1 to 1024 nodes",
+    ),
+    message(
+        3,
+        "property_table_size",
+        "the subtree has more than 4096 properties",
+    ),
+    message(
+        4,
+        "pool_size",
+        "names and values of the subtree take more than 65536 bytes",
+    ),
+    message(
+        5,
+        "node_name_range",
+        "the node name does not have 1 to 64 bytes",
+    ),
+    message(
+        6,
+        "node_parent_order",
+        "the node does not stand in depth-first order",
+    ),
+    message(
+        7,
+        "property_range",
+        "the property name does not have 1 to 31 bytes, or its node, name or value is out of range",
+    ),
+    message(
+        8,
+        "duplicate_property",
+        "the node has this property twice",
+    ),
+    message(
+        9,
+        "cpus_node",
+        "#address-cells must be 1 or 2 (1 for width 32) and #size-cells 0",
+    ),
+    message(10, "cpu_count", "there are not 1 to 256 cpu nodes"),
+    message(
+        11,
+        "cpu_device_type",
+        "device_type is missing or is not \"cpu\"",
+    ),
+    message(
+        12,
+        "cpu_reg",
+        "reg is missing, does not fit #address-cells, or has bits outside the affinity bits",
+    ),
+    message(
+        13,
+        "duplicate_cpu_reg",
+        "reg is the same as that of an earlier cpu node",
+    ),
+    message(15, "cpu_map_missing", "no cpu-map"),
+    message(
+        16,
+        "cpu_map_duplicate",
+        "a second node is named cpu-map",
+    ),
+    message(
+        17,
+        "cpu_phandle",
+        "phandle is missing, is not one cell, is 0 or 0xffffffff, or is that of an earlier cpu node",
+    ),
+    message(
+        18,
+        "topology_outside_map",
+        "a node outside cpu-map has the name of a socket, cluster, core or thread",
+    ),
+    message(
+        19,
+        "cpu_map_name",
+        "the name is not socketN, clusterN, coreN or threadN with a number of 0 to 9999",
+    ),
+    message(
+        20,
+        "cpu_map_kind",
+        "a node of this kind is not allowed here, or differs in kind from the first one beside it",
+    ),
+    message(
+        21,
+        "cpu_map_order",
+        "the number is not the count of nodes before it under the same parent",
+    ),
+    message(
+        22,
+        "cpu_map_depth",
+        "more than four clusters are nested",
+    ),
+    message(
+        23,
+        "cpu_map_empty",
+        "a cpu-map, socket or cluster must have children",
+    ),
+    message(
+        24,
+        "cpu_map_phandle",
+        "cpu is missing, is not one cell, or is the phandle of no cpu node",
+    ),
+    message(
+        25,
+        "cpu_map_cpu_repeated",
+        "cpu names a cpu node that an earlier core or thread names",
+    ),
+    message(
+        26,
+        "cpu_unmapped",
+        "no core or thread of cpu-map names this cpu node",
+    ),
+    message(
+        27,
+        "row_space",
+        "the row buffer is too short for the cpu nodes",
+    ),
+    message(
+        28,
+        "list_length",
+        "the list does not have 1 to 256 MPIDRs",
+    ),
+    message(
+        29,
+        "list_mpidr",
+        "an MPIDR has bits outside the affinity bits",
+    ),
+    message(30, "list_unknown", "the MPIDR is not in the list"),
+    message(
+        49,
+        "answer_space",
+        "the answer has fewer than ten words",
+    ),
+];
+
+/// The message of a number that the library tells.
+pub fn find(number: u32) -> Option<&'static Message> {
+    MESSAGES.iter().find(|message| message.number == number)
+}
+
+#[cfg(test)]
+mod tests {
+    use super::*;
+
+    #[test]
+    fn every_number_has_one_message() {
+        let numbers: Vec<u32> = MESSAGES.iter().map(|m| m.number).collect();
+        let wanted: Vec<u32> = (0..=30).filter(|&n| n != 14).chain([49]).collect();
+        assert_eq!(numbers, wanted);
+    }
+
+    #[test]
+    fn check_names_are_distinct_and_plain() {
+        for (at, message) in MESSAGES.iter().enumerate() {
+            let plain = |byte: u8| byte.is_ascii_lowercase() || byte == b'_';
+            assert!(message.check.bytes().all(plain), "{}", message.check);
+            assert!(!message.sentence.is_empty());
+            let same = |other: &Message| other.check == message.check;
+            assert!(!MESSAGES[..at].iter().any(same), "{}", message.check);
+        }
+    }
+
+    /// The header's enumeration has the same names and numbers.
+    #[test]
+    fn header_has_the_same_numbers() {
+        let header = include_str!("../../include/sunderwath.h");
+        for message in &MESSAGES {
+            let name = message.check.to_uppercase();
+            let entry = format!("SUNDERWATH_{name} = {}", message.number);
+            let followed = |rest: &str| !rest.starts_with(|c: char| c.is_ascii_digit());
+            assert!(
+                header.split(&entry).skip(1).any(followed),
+                "{entry} is not in the header"
+            );
+        }
+    }
+}

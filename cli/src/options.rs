@@ -1,0 +1,142 @@
+//! The command line.
+
+pub const USAGE: &str = "\
+Usage: sunderwath [OPTION]... FILE|-
+
+Check the processor topology of a devicetree and print one line per processor.
+FILE is a blob (.dtb), a source (.dts, compiled by dtc), or - for a blob on
+standard input.
+
+  -w, --width 32|64  width of the board: 32 for ARM v7, 64 for ARM v8 (default)
+  -p, --parse        print comma-separated values, with comments after #
+  -j, --json         print JSON
+  -t, --tree         print the cpu-map as an indented tree
+  -q, --quiet        print no message when the board is refused
+  -h, --help         print this help
+  -V, --version      print the version
+
+Exit status: 0 accepted, 1 refused, 2 wrong usage or unreadable file.
+";
+
+#[derive(Clone, Copy, Debug, PartialEq, Eq)]
+pub enum Format {
+    Table,
+    Parsable,
+    Json,
+    Tree,
+}
+
+#[derive(Clone, Debug, PartialEq, Eq)]
+pub struct Options {
+    pub width: u32,
+    pub format: Format,
+    pub quiet: bool,
+    pub file: String,
+}
+
+#[derive(Debug, PartialEq, Eq)]
+pub enum Request {
+    Run(Options),
+    Help,
+    Version,
+}
+
+fn width(text: &str) -> Result<u32, String> {
+    match text {
+        "32" => Ok(32),
+        "64" => Ok(64),
+        _ => Err(format!("the width must be 32 or 64, not '{text}'")),
+    }
+}
+
+/// An option alone, without the width.
+fn flag(options: &mut Options, argument: &str) -> Result<(), String> {
+    match argument {
+        "-q" | "--quiet" => options.quiet = true,
+        "-p" | "--parse" => options.format = Format::Parsable,
+        "-j" | "--json" => options.format = Format::Json,
+        "-t" | "--tree" => options.format = Format::Tree,
+        _ => match argument.strip_prefix("--width=") {
+            Some(value) => options.width = width(value)?,
+            None => return Err(format!("unknown option '{argument}'")),
+        },
+    }
+    Ok(())
+}
+
+/// Reads the arguments that follow the program's name.
+pub fn parse(arguments: impl IntoIterator<Item = String>) -> Result<Request, String> {
+    let mut arguments = arguments.into_iter();
+    let mut options = Options {
+        width: 64,
+        format: Format::Table,
+        quiet: false,
+        file: String::new(),
+    };
+    let mut files = Vec::new();
+    while let Some(argument) = arguments.next() {
+        match argument.as_str() {
+            "--" => files.extend(arguments.by_ref()),
+            "-h" | "--help" => return Ok(Request::Help),
+            "-V" | "--version" => return Ok(Request::Version),
+            "-w" | "--width" => {
+                let value = arguments.next();
+                let value = value.ok_or(format!("option '{argument}' needs a value"))?;
+                options.width = width(&value)?;
+            }
+            "-" => files.push(argument),
+            text if text.starts_with('-') => flag(&mut options, text)?,
+            _ => files.push(argument),
+        }
+    }
+    if files.len() > 1 {
+        return Err("more than one file".to_string());
+    }
+    options.file = files.pop().ok_or("no file")?;
+    Ok(Request::Run(options))
+}
+
+#[cfg(test)]
+mod tests {
+    use super::*;
+
+    fn parsed(line: &str) -> Result<Request, String> {
+        parse(line.split_whitespace().map(String::from))
+    }
+
+    #[test]
+    fn options_in_any_order() {
+        let wanted = Options {
+            width: 32,
+            format: Format::Json,
+            quiet: true,
+            file: "a.dtb".to_string(),
+        };
+        for line in [
+            "--width 32 --json -q a.dtb",
+            "a.dtb -q -j -w 32",
+            "--width=32 --quiet -j -- a.dtb",
+        ] {
+            assert_eq!(parsed(line), Ok(Request::Run(wanted.clone())));
+        }
+        assert_eq!(parsed("--help"), Ok(Request::Help));
+        assert_eq!(parsed("x -V"), Ok(Request::Version));
+    }
+
+    #[test]
+    fn wrong_usage() {
+        for line in [
+            "",
+            "-q",
+            "a b",
+            "--width",
+            "--width 5 a",
+            "-x a",
+            "--wid 32 a",
+        ] {
+            assert!(parsed(line).is_err(), "{line}");
+        }
+        assert!(matches!(parsed("-"), Ok(Request::Run(_))));
+        assert!(matches!(parsed("-- -x"), Ok(Request::Run(_))));
+    }
+}

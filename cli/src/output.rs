@@ -1,0 +1,200 @@
+//! Prints an accepted board: as a table, parsable, as JSON or as a tree.
+
+use crate::board::{Board, Row};
+use crate::fdt::Tables;
+use crate::options::Format;
+use std::fmt::Write;
+
+const HEADER: [&str; 8] = [
+    "LEAF", "CPU", "MPIDR", "SOCKET", "CLUSTER", "CORE", "THREAD", "SLOT",
+];
+
+pub fn print(format: Format, tables: &Tables, board: &Board) -> String {
+    match format {
+        Format::Table => table(tables, board),
+        Format::Parsable => parsable(tables, board),
+        Format::Json => json(tables, board),
+        Format::Tree => tree(tables, board),
+    }
+}
+
+/// The records from below the map down to a leaf.
+fn chain(tables: &Tables, leaf: u32) -> Vec<u32> {
+    let mut records: Vec<u32> =
+        std::iter::successors(Some(leaf), |&record| tables.parent(record)).collect();
+    records.reverse();
+    // The first two are the cpus node and the map.
+    records.split_off(2)
+}
+
+fn leaf_path(tables: &Tables, leaf: u32) -> String {
+    let names: Vec<String> = chain(tables, leaf)
+        .iter()
+        .map(|&record| tables.name(record))
+        .collect();
+    names.join("/")
+}
+
+fn cluster_path(row: &Row) -> String {
+    let numbers: Vec<String> = row.clusters.iter().map(u32::to_string).collect();
+    numbers.join("/")
+}
+
+/// The columns of a row; `gap` stands where the map has no number.
+fn columns(tables: &Tables, row: &Row, gap: &str) -> [String; 8] {
+    let or_gap = |number: Option<u32>| number.map_or(gap.to_string(), |n| n.to_string());
+    [
+        leaf_path(tables, row.leaf),
+        tables.name(row.cpu),
+        format!("{:#x}", row.mpidr),
+        or_gap(row.socket),
+        cluster_path(row),
+        row.core.to_string(),
+        or_gap(row.thread),
+        row.slot.to_string(),
+    ]
+}
+
+fn shifts(board: &Board, separator: &str) -> String {
+    let shifts: Vec<String> = board.shifts.iter().map(u32::to_string).collect();
+    shifts.join(separator)
+}
+
+fn hash_line(board: &Board) -> String {
+    format!(
+        "hash: mask {:#x}, shifts {}, bits {}\n",
+        board.mask,
+        shifts(board, " "),
+        board.bits
+    )
+}
+
+fn table(tables: &Tables, board: &Board) -> String {
+    let mut lines = vec![HEADER.map(String::from)];
+    lines.extend(board.rows.iter().map(|row| columns(tables, row, "-")));
+    let width = |column: usize| lines.iter().map(|line| line[column].len()).max();
+    let widths: Vec<usize> = (0..HEADER.len())
+        .map(|column| width(column).unwrap_or(0))
+        .collect();
+    let mut text = String::new();
+    for line in &lines {
+        let cells: Vec<String> = line
+            .iter()
+            .zip(&widths)
+            .map(|(cell, width)| format!("{cell:<width$}"))
+            .collect();
+        text.push_str(cells.join(" ").trim_end());
+        text.push('\n');
+    }
+    text + &hash_line(board)
+}
+
+fn parsable(tables: &Tables, board: &Board) -> String {
+    let mut text = format!(
+        "# mask={:#x} shifts={} bits={}\n# {}\n",
+        board.mask,
+        shifts(board, ","),
+        board.bits,
+        HEADER.join(",").to_lowercase()
+    );
+    for row in &board.rows {
+        text.push_str(&columns(tables, row, "").map(comma_safe).join(","));
+        text.push('\n');
+    }
+    text
+}
+
+/// A unit address may hold a comma; such a value stands in quotes.
+fn comma_safe(value: String) -> String {
+    if value.contains(',') {
+        format!("\"{value}\"")
+    } else {
+        value
+    }
+}
+
+fn json_string(text: &str) -> String {
+    let mut quoted = String::from("\"");
+    for character in text.chars() {
+        match character {
+            '"' | '\\' => quoted.extend(['\\', character]),
+            c if (c as u32) < 0x20 => {
+                write!(quoted, "\\u{:04x}", c as u32).expect("strings can be written to");
+            }
+            c => quoted.push(c),
+        }
+    }
+    quoted + "\""
+}
+
+fn json_row(tables: &Tables, row: &Row) -> String {
+    let or_null = |number: Option<u32>| number.map_or("null".to_string(), |n| n.to_string());
+    let clusters: Vec<String> = row.clusters.iter().map(u32::to_string).collect();
+    format!(
+        "    {{\"leaf\": {}, \"cpu\": {}, \"mpidr\": \"{:#x}\", \"socket\": {}, \
+         \"clusters\": [{}], \"core\": {}, \"thread\": {}, \"slot\": {}}}",
+        json_string(&tables.path(row.leaf)),
+        json_string(&tables.path(row.cpu)),
+        row.mpidr,
+        or_null(row.socket),
+        clusters.join(", "),
+        row.core,
+        or_null(row.thread),
+        row.slot
+    )
+}
+
+fn json(tables: &Tables, board: &Board) -> String {
+    let rows: Vec<String> = board.rows.iter().map(|row| json_row(tables, row)).collect();
+    format!(
+        "{{\n  \"width\": {},\n  \"count\": {},\n  \"mask\": \"{:#x}\",\n  \
+         \"shifts\": [{}],\n  \"bits\": {},\n  \"rows\": [\n{}\n  ]\n}}\n",
+        board.width,
+        board.rows.len(),
+        board.mask,
+        shifts(board, ", "),
+        board.bits,
+        rows.join(",\n")
+    )
+}
+
+/// Each node of the map once, a leaf with its cpu, MPIDR and slot.
+fn tree(tables: &Tables, board: &Board) -> String {
+    let mut text = String::from("cpu-map\n");
+    let mut open: Vec<u32> = Vec::new();
+    for row in &board.rows {
+        let records = chain(tables, row.leaf);
+        let same = open.iter().zip(&records).take_while(|(a, b)| a == b);
+        let known = same.count();
+        for (depth, &record) in records.iter().enumerate().skip(known) {
+            let indent = 2 * (depth + 1);
+            write!(text, "{:indent$}{}", "", tables.name(record))
+                .expect("strings can be written to");
+            if record == row.leaf {
+                let cpu = tables.name(row.cpu);
+                write!(text, ": {cpu}, mpidr {:#x}, slot {}", row.mpidr, row.slot)
+                    .expect("strings can be written to");
+            }
+            text.push('\n');
+        }
+        open = records;
+    }
+    text + &hash_line(board)
+}
+
+#[cfg(test)]
+mod tests {
+    use super::{comma_safe, json_string};
+
+    #[test]
+    fn values_with_commas_are_quoted() {
+        assert_eq!(comma_safe("cpu@0,1".to_string()), "\"cpu@0,1\"");
+        assert_eq!(comma_safe("cpu@0".to_string()), "cpu@0");
+    }
+
+    #[test]
+    fn json_strings_are_quoted() {
+        assert_eq!(json_string("cpu@0"), "\"cpu@0\"");
+        assert_eq!(json_string("a\"\\\n"), "\"a\\\"\\\\\\u000a\"");
+    }
+}

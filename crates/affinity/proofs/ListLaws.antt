@@ -1,0 +1,99 @@
+-- What is wrong with a list, and what follows where nothing is. Assumes nothing.
+use mathlib.Core.Path.{_≡_, refl, sym, ap, _∙_}
+use mathlib.Core.Bool.{Bool, true, false, cond}
+use mathlib.Core.List.{List}
+use Prim.Native.Nat.{ℕ, _≤_}
+use native.Mathlib.Omega.{arith}
+use lib.Dec.{eqb, ltb, lit≤}
+use lib.ListN.{length, getD}
+use borrow.Author.Tests.{ne-eqb, eqb-false, ltb-false, le-ltb}
+use Rattle.laws.specs.Fault.{clear, told}
+use Rattle.laws.proofs.SearchLaws.{true-false}
+use Rattle.laws.proofs.FaultLaws.{first-is, clear-below, place-le}
+use Rattle.laws.proofs.OrElseLaws.{told-number, or-clear}
+use Rattle.affinity.specs.declared.list.ListMask.{ListMask}
+use Rattle.affinity.specs.declared.mask.Gathered.{Gathered}
+use Rattle.affinity.specs.Level.{isAffine}
+use Rattle.affinity.specs.Mask.{maskOf, gathered}
+use Rattle.affinity.specs.List.{lengthFault, bitFault, AllAffine, firstOutside, listFault, maskAnswer}
+use Rattle.affinity.proofs.AffineLaws.{test-affine, affine-passes}
+use Rattle.affinity.proofs.MaskLaws.{some-affine, affine-some}
+
+bit-affine : (x : ℕ) → bitFault x ≡ 0 → isAffine x ≡ true
+bit-affine x h = go (isAffine x) refl h
+  where
+    go : (b : Bool) → isAffine x ≡ b → _≡_ {A = ℕ} (cond b 0 29) 0 → isAffine x ≡ true
+    go true e z = e
+    go false e z = absurd (omega arith)
+
+length-clear : (n : ℕ) → lengthFault n ≡ 0 → (1 ≤ n) × (n ≤ 256)
+length-clear n h = go (eqb n 0) refl (ltb 256 n) refl h
+  where
+    go : (b : Bool) → eqb n 0 ≡ b → (d : Bool) → ltb 256 n ≡ d → _≡_ {A = ℕ} (cond b 28 (cond d 28 0)) 0 → (1 ≤ n) × (n ≤ 256)
+    go true e d f z = absurd (omega arith)
+    go false e true f z = absurd (omega arith)
+    go false e false f z = omega (arith, eqb-false n 0 e, ltb-false 256 n f)
+
+module _ (list : List ℕ) where
+  -- no number told: no bit outside
+  pub clear-affine : firstOutside list .number ≡ 0 → AllAffine list
+  unfolding firstOutside
+  clear-affine h i lt =
+      test-affine (getD list i 0) (bit-affine (getD list i 0) (first-is (λ k. bitFault (getD list k 0)) (length list) .none h .1 i lt))
+
+  -- the test of the or of a list tells whether 29 is told
+  pub some-clear : (g : Gathered) (t : Bool) → g ≡ gathered list → t ≡ isAffine (g .some) → t ≡ true → firstOutside list ≡ clear
+  unfolding firstOutside gathered
+  some-clear g t e q h =
+      let some = test-affine (g .some) (sym q ∙ h) in
+      clear-below (λ k. bitFault (getD list k 0)) (length list) (λ i lt. rw (affine-passes (getD list i 0) (some-affine list (rw e at some) i lt)))
+
+  pub some-told : (g : Gathered) (t : Bool) → g ≡ gathered list → t ≡ isAffine (g .some) → t ≡ false → firstOutside list .number ≡ 0 → ⊥
+  unfolding gathered
+  some-told g t e q h z = true-false (affine-passes (g .some) (rw e (affine-some list (clear-affine z)))) (sym q ∙ h)
+
+  -- within the limits of length, 29 is what may be told
+  pub fault-within : (length list ≡ 0 → ⊥) → length list ≤ 256 → listFault list ≡ firstOutside list
+  unfolding listFault
+  fault-within ne le = rw (ne-eqb (length list) 0 ne, le-ltb 256 (length list) le)
+
+  -- no fault: 1 to 256 MPIDRs with no bit outside
+  pub fault-sound : listFault list .number ≡ 0 → AllAffine list × (1 ≤ length list) × (length list ≤ 256)
+  unfolding listFault
+  fault-sound h =
+      let t = or-clear (told (lengthFault (length list)) 0) (firstOutside list) h in
+      let bounds = length-clear (length list) (sym (told-number (lengthFault (length list)) 0) ∙ t .0) in
+      (clear-affine (t .1), bounds .0, bounds .1)
+
+  pub fault-place-le : listFault list .place ≤ 256
+  unfolding listFault firstOutside
+  fault-place-le = go (eqb (length list) 0) refl (ltb 256 (length list)) refl
+    where
+      go : (b : Bool) → eqb (length list) 0 ≡ b → (d : Bool) → ltb 256 (length list) ≡ d → listFault list .place ≤ 256
+      go true e d f = rw e (lit≤ tt)
+      go false e true f = rw (e, f) (lit≤ tt)
+      go false e false f = rw (e, f) (omega (arith, place-le (λ k. bitFault (getD list k 0)) (length list), ltb-false 256 (length list) f))
+
+  -- the answer to "the mask of a list", told by its number
+  abbrev accepted : ListMask
+  accepted = record { number = 0; place = 0; mask = maskOf list }
+
+  abbrev refused : ListMask
+  refused = record { number = listFault list .number; place = listFault list .place; mask = 0 }
+
+  pub mask-refused : (a : ListMask) → a ≡ maskAnswer list → (a .number ≡ 0 → ⊥) → (eqb (listFault list .number) 0 ≡ false) × (a ≡ refused)
+  unfolding maskAnswer
+  mask-refused a e ne = go (eqb (listFault list .number) 0) refl e
+    where
+      go : (b : Bool) → eqb (listFault list .number) 0 ≡ b → a ≡ cond b accepted refused → (eqb (listFault list .number) 0 ≡ false) × (a ≡ refused)
+      go true f g = absurd (ne (ap (λ (x : ListMask). x .number) g))
+      go false f g = (f, g)
+
+  pub mask-accepted : (a : ListMask) → a ≡ maskAnswer list → a .number ≡ 0 → (eqb (listFault list .number) 0 ≡ true) × (a .mask ≡ maskOf list)
+  unfolding maskAnswer
+  mask-accepted a e z = go (eqb (listFault list .number) 0) refl e
+    where
+      go :
+          (b : Bool) → eqb (listFault list .number) 0 ≡ b → a ≡ cond b accepted refused → (eqb (listFault list .number) 0 ≡ true) × (a .mask ≡ maskOf list)
+      go true f g = (f, ap (λ (x : ListMask). x .mask) g)
+      go false f g = absurd (eqb-false (listFault list .number) 0 f (sym (ap (λ (x : ListMask). x .number) g) ∙ z))

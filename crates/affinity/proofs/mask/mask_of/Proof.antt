@@ -1,0 +1,15 @@
+-- `mask_of` is the mask that `gather` makes. Assumes nothing.
+use Rattle.affinity.specs.Mask.{gathered}
+use borrow.Author.Needs.{needs}
+use Rattle.affinity.proofs.mask.mask_of.Statement.{statement}
+use Rattle.affinity.proofs.mask.mask_of.Tie as tie
+
+gather-requires : tie.Need-gather-requires
+gather-requires c κs = search needs
+
+returns : tie.Need-returns
+unfolding gathered
+returns c = rw (c .gather .ensures)
+
+pub mask-of-spec : {M : Type 1} → statement M
+mask-of-spec = tie.close (tie.spec gather-requires returns)

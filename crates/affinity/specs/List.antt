@@ -1,0 +1,62 @@
+-- What is answered of a list of MPIDRs: numbers 28, 29 and 30.
+use mathlib.Core.Bool.{Bool, cond}
+use mathlib.Core.List.{List, [], _∷_}
+use Prim.Native.Nat.{ℕ, _<_}
+use lib.Dec.{eqb, ltb}
+use lib.ListN.{length, getD}
+use Rattle.laws.specs.declared.Fault.{Fault}
+use Rattle.laws.specs.Fault.{firstFault, told, orElse}
+use Rattle.laws.specs.Search.{anyBelow}
+use Rattle.affinity.specs.declared.Hash.{Hash}
+use Rattle.affinity.specs.declared.ListHash.{ListHash}
+use Rattle.affinity.specs.declared.ListSlot.{ListSlot}
+use Rattle.affinity.specs.declared.list.ListMask.{ListMask}
+use Rattle.affinity.specs.Level.{Affine, isAffine}
+use Rattle.affinity.specs.Mask.{maskOf}
+use Rattle.affinity.specs.Hash.{hashOf, slotIn}
+
+-- 28: empty or more than 256
+abbrev pub lengthFault : ℕ → ℕ
+lengthFault n = cond (eqb n 0) 28 (cond (ltb 256 n) 28 0)
+
+-- 29: a bit outside the affinity bits
+abbrev pub bitFault : ℕ → ℕ
+bitFault mpidr = cond (isAffine mpidr) 0 29
+
+-- 29 told of the lowest index
+unfoldable pub firstOutside : List ℕ → Fault
+firstOutside list = firstFault (λ i. bitFault (getD list i 0)) (length list)
+
+-- a list of MPIDRs with no bit outside
+abbrev pub AllAffine : List ℕ → Type 0
+AllAffine list = (i : ℕ) → i < length list → Affine (getD list i 0)
+
+-- the first of 28 and 29
+unfoldable pub listFault : List ℕ → Fault
+listFault list = orElse (told (lengthFault (length list)) 0) (firstOutside list)
+
+-- the mask of a list with no fault
+unfoldable pub maskAnswer : List ℕ → ListMask
+maskAnswer list =
+    cond (eqb (listFault list .number) 0) (record { number = 0; place = 0; mask = maskOf list })
+    (record { number = listFault list .number; place = listFault list .place; mask = 0 })
+
+abbrev pub noHash : Hash
+noHash = record { mask = 0; shifts = 0 ∷ 0 ∷ 0 ∷ 0 ∷ []; bits = 0 }
+
+-- the answer to "the hash of a list": in a refusal every other result is 0
+unfoldable pub hashAnswer : List ℕ → ListHash
+hashAnswer list =
+    cond (eqb (listFault list .number) 0) (record { number = 0; place = 0; hash = hashOf list })
+    (record { number = listFault list .number; place = listFault list .place; hash = noHash })
+
+-- whether an MPIDR stands in a list
+unfoldable pub isListed : List ℕ → ℕ → Bool
+isListed list mpidr = anyBelow (λ i. eqb (getD list i 0) mpidr) (length list)
+
+-- the answer to "one MPIDR's slot in a list": 28, 29, then 30 for an unknown one
+unfoldable pub slotAnswer : ℕ → List ℕ → ListSlot
+slotAnswer mpidr list =
+    cond (eqb (listFault list .number) 0)
+    (cond (isListed list mpidr) (record { number = 0; place = 0; slot = slotIn list mpidr }) (record { number = 30; place = 0; slot = 0 }))
+    (record { number = listFault list .number; place = listFault list .place; slot = 0 })

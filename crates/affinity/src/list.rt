@@ -1,0 +1,149 @@
+// What is answered of a list of MPIDRs.
+use super::level::is_affine;
+use super::mask::gather;
+use super::slot::hash_of_mask;
+use super::slot::slot_of;
+use crate::Hash;
+use crate::ListHash;
+use crate::ListSlot;
+use laws::Fault;
+ghost use mathlib.Core.Path.{_≡_};
+ghost use Rattle.affinity.specs.List.{firstOutside, maskAnswer, hashAnswer, isListed, slotAnswer};
+
+const MOST_LISTED: usize = 256;
+
+// Told of a list that is empty or longer than that.
+const BAD_LENGTH: u32 = 28;
+
+// Told of an MPIDR with a bit outside the affinity bits.
+const OUTSIDE_BITS: u32 = 29;
+
+// Told of an MPIDR that is not in the list.
+const UNKNOWN: u32 = 30;
+
+// The mask of a list, or the number and the place of what is wrong with it.
+struct ListMask {
+    number: u32,
+    place: usize,
+    mask: u64,
+}
+
+// The hash of a list.
+pub fn list_hash(list: &[u64]) -> ListHash
+    ensures { λ r. ⌜ r ≡ hashAnswer (now (list .entry)) ⌝ }
+{
+    let answer = list_mask(list);
+    if answer.number != 0 {
+        let hash = Hash {
+            mask: 0,
+            shifts: [0; 4],
+            bits: 0,
+        };
+        return ListHash {
+            number: answer.number,
+            place: answer.place,
+            hash,
+        };
+    }
+    let hash = hash_of_mask(answer.mask);
+    ListHash {
+        number: 0,
+        place: 0,
+        hash,
+    }
+}
+
+// The slot of one MPIDR in a list, for one that is listed.
+pub fn list_slot(mpidr: u64, list: &[u64]) -> ListSlot
+    ensures { λ r. ⌜ r ≡ slotAnswer mpidr (now (list .entry)) ⌝ }
+{
+    let answer = list_mask(list);
+    if answer.number != 0 {
+        return ListSlot {
+            number: answer.number,
+            place: answer.place,
+            slot: 0,
+        };
+    }
+    if !is_listed(list, mpidr) {
+        return ListSlot {
+            number: UNKNOWN,
+            place: 0,
+            slot: 0,
+        };
+    }
+    let slot = slot_of(hash_of_mask(answer.mask), mpidr);
+    ListSlot {
+        number: 0,
+        place: 0,
+        slot,
+    }
+}
+
+// One pass over a list with no fault: a bit outside in one of the list is one in the or of all.
+fn list_mask(list: &[u64]) -> ListMask
+    ensures { λ r. ⌜ r ≡ maskAnswer (now (list .entry)) ⌝ }
+{
+    if list.len() == 0 {
+        return ListMask {
+            number: BAD_LENGTH,
+            place: 0,
+            mask: 0,
+        };
+    }
+    if MOST_LISTED < list.len() {
+        return ListMask {
+            number: BAD_LENGTH,
+            place: 0,
+            mask: 0,
+        };
+    }
+    let bits = gather(list);
+    if !is_affine(bits.some) {
+        let fault = first_outside(list);
+        return ListMask {
+            number: fault.number,
+            place: fault.place,
+            mask: 0,
+        };
+    }
+    ListMask {
+        number: 0,
+        place: 0,
+        mask: bits.mask,
+    }
+}
+
+// The lowest index with a bit outside the affinity bits.
+fn first_outside(list: &[u64]) -> Fault
+    ensures { λ r. ⌜ r ≡ firstOutside (now (list .entry)) ⌝ }
+{
+    let mut i: usize = 0;
+    while i < list.len() {
+        if !is_affine(list[i]) {
+            return Fault {
+                number: OUTSIDE_BITS,
+                place: i,
+            };
+        }
+        i += 1;
+    }
+    Fault {
+        number: 0,
+        place: 0,
+    }
+}
+
+// Whether an MPIDR stands in a list.
+fn is_listed(list: &[u64], mpidr: u64) -> bool
+    ensures { λ r. ⌜ r ≡ isListed (now (list .entry)) mpidr ⌝ }
+{
+    let mut i: usize = 0;
+    while i < list.len() {
+        if list[i] == mpidr {
+            return true;
+        }
+        i += 1;
+    }
+    false
+}

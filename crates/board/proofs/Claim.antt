@@ -1,0 +1,174 @@
+-- Demands 1 and 3 of the definitions that the reading call's contract cites. Assumes nothing.
+use mathlib.Core.Path.{_≡_, refl, sym, ap, _∙_}
+use mathlib.Core.Bool.{Bool, true, false}
+use mathlib.Core.Logic.{⊎-elim, _↔_}
+use mathlib.Core.List.{List}
+use Prim.Native.Nat.{ℕ, _+_, _*_, _^_, _≤_, _<_}
+use native.Mathlib.Omega.{arith}
+use lib.ListN.{length, getD, take, drop}
+use lib.Dec.{eqb}
+use borrow.Author.Tests.{eq-eqb, ne-eqb, eqb-true, eqb-false}
+use Rattle.laws.proofs.SearchLaws.{lt-or-le}
+use Rattle.laws.proofs.RuleStageLaws.{tells-first, tells-none}
+use Rattle.affinity.specs.Hash.{hashOf}
+use Rattle.tables.specs.Board.{Board, Typed, nodeCount}
+use Rattle.tables.specs.Order.{stage}
+use Rattle.tables.specs.Rules.{WellFormed}
+use Rattle.cpus.specs.Rules.{CpuRule, SoundCpus}
+use Rattle.cpus.specs.Check.{cpuCount, cpuList}
+use Rattle.cpus.proofs.CpuMeans.{cpu-listing, cpu-count}
+use Rattle.topology.specs.Map.{Map}
+use Rattle.topology.specs.Rules.{MapRule}
+use Rattle.topology.specs.Find.{mapOf}
+use Rattle.topology.specs.Scan.{leavesOf}
+use Rattle.topology.proofs.MapMeans.{map-of, no-map}
+use Rattle.rows.specs.Fits.{rowSize, Fits, Mpidrs}
+use Rattle.rows.specs.Write.{rowsBelow, written}
+use Rattle.rows.proofs.SourceMeans.{theSource, leafCount, LeafFacts, leaf-facts, leaf-count, mpidrs-of}
+use Rattle.rows.proofs.FitMeans.{rows-fit}
+use Rattle.rows.proofs.FitUnique.{fits-unique}
+use Rattle.rows.proofs.SlotMeans.{slots-distinct-rows, slots-bounded}
+use Rattle.rows.proofs.WrittenLaws.{written-front, written-rest, written-length, written-at}
+use Rattle.board.specs.declared.BoardAnswer.{BoardAnswer}
+use Rattle.board.specs.Rules.{Breaks, MapBroken, Room}
+use Rattle.board.specs.Answer.{boardFault, sourceOf, mpidrList, answerOf, rowsAfter}
+use Rattle.board.specs.Reading.{slotAt, Refused, Accepted, Reading, Demands}
+use Rattle.board.proofs.StageLaws.{CpuPlace, cpu-place, map-place, stage-range}
+use Rattle.board.proofs.BoardTells.{board-tells}
+
+-- the rows of a board that breaks no rule
+module _
+    {b : Board}
+    (typed : Typed b)
+    (before : List ℕ)
+    (none : (n p : ℕ) → Breaks b (length before) n p → ⊥)
+  where
+    well : WellFormed b
+    well n p r = none n p (Breaks.tables r)
+
+    sound : SoundCpus b
+    sound n p r _ = none n p (Breaks.cpus r)
+
+    no17 : (p : ℕ) → CpuRule b 17 p → ⊥
+    no17 p r = none 17 p (Breaks.cpus r)
+
+    kept : (n p : ℕ) → MapRule b n p → ⊥
+    kept n p r = none n p (Breaks.topology r)
+
+    the-map : (m : ℕ) × Map b m
+    the-map = ⊎-elim (λ lt. (mapOf (b .nodes) (b .pool), map-of b well lt)) (λ le. absurd (kept 15 0 (MapRule.noMap (no-map b well le)))) (lt-or-le (mapOf (b .nodes) (b .pool)) (nodeCount (b .nodes)))
+
+    room : rowSize * cpuCount b ≤ length before
+    room = ⊎-elim (λ lt. absurd (none 27 0 (Breaks.noRoom (cpuList b) (cpu-listing well) (rw (cpu-count b) at lt)))) (λ le. le) (lt-or-le (length before) (rowSize * cpuCount b))
+
+    leaves : LeafFacts b
+    leaves = leaf-facts typed well sound no17 (the-map .1) kept
+
+    same : leafCount b ≡ cpuCount b
+    same = leaf-count typed well sound no17 (the-map .1) kept
+
+    has-room : rowSize * leafCount b ≤ length before
+    has-room = omega (arith, same, room)
+
+    abbrev after : List ℕ
+    after = written (sourceOf b) before
+
+    fits : Fits b (take (rowSize * cpuCount b) after)
+    unfolding leavesOf
+    fits = rw (← same, written-front (theSource b) before has-room) (rows-fit typed well sound (the-map .1) kept leaves)
+
+    slot-at : (k : ℕ) → k < cpuCount b → slotAt after k ≡ slotAt (rowsBelow (theSource b) (leafCount b)) k
+    unfolding leavesOf
+    slot-at k lt = written-at (theSource b) before has-room (rowSize * k + 11) (omega (arith, same))
+
+    distinct : (j k : ℕ) → j < cpuCount b → k < cpuCount b → slotAt after j ≡ slotAt after k → j ≡ k
+    distinct j k lj lk e = slots-distinct-rows typed well sound leaves j k (rw same lj) (rw same lk) (sym (slot-at j lj) ∙ e ∙ slot-at k lk)
+
+    rest : drop (rowSize * cpuCount b) after ≡ drop (rowSize * cpuCount b) before
+    unfolding leavesOf
+    rest = rw (← same) (written-rest (theSource b) before has-room)
+
+    rows-accepted : Accepted b before (record { number = 0; place = 0; count = cpuCount b; hash = hashOf (mpidrList b) }) after
+    unfolding leavesOf
+    rows-accepted =
+        record {
+          place = refl;
+          fits = fits;
+          only = λ rows h. fits-unique typed well sound no17 kept h fits;
+          rest = rest;
+          size = written-length (theSource b) before has-room;
+          count = (cpuList b, cpu-listing well, cpu-count b);
+          hash = (mpidrList b, mpidrs-of typed well sound, refl);
+          distinct = distinct;
+          bounded = λ k lt. rw (slot-at k lt) (slots-bounded typed well sound leaves k (rw same lt));
+        }
+
+module _ {b : Board} (typed : Typed b) (before : List ℕ) where
+  abbrev number : ℕ
+  number = boardFault b (length before) .number
+
+  abbrev answer : BoardAnswer
+  answer = answerOf b (length before)
+
+  abbrev buffer : List ℕ
+  buffer = rowsAfter b before
+
+  staged : (m q : ℕ) → Breaks b (length before) m q → 1 ≤ stage m
+  staged m q r = stage-range (length before) m q r .0
+
+  refusal : (number ≡ 0 → ⊥) → Refused b before answer buffer
+  unfolding answerOf rowsAfter
+  refusal ne =
+      rw (ne-eqb number 0 ne)
+      (record { first = tells-first stage (Breaks b (length before)) staged (board-tells typed (length before)) ne; count = refl; hash = refl; buffer = refl })
+
+  none : number ≡ 0 → (n p : ℕ) → Breaks b (length before) n p → ⊥
+  none z = tells-none stage (Breaks b (length before)) staged (board-tells typed (length before)) z
+
+  acceptance : number ≡ 0 → Accepted b before answer buffer
+  unfolding answerOf rowsAfter
+  acceptance z = rw (eq-eqb number 0 z) (rows-accepted typed before (none z))
+
+  -- the answer's number is that of the fault
+  answer-number : answer .number ≡ number
+  unfolding answerOf
+  answer-number = go (eqb number 0) refl
+    where
+      go : (t : Bool) → eqb number 0 ≡ t → answer .number ≡ number
+      go true e = rw e (sym (eqb-true number 0 e))
+      go false e = rw e
+
+  -- a map rule is broken where some rule is, none of them being one of the other layers
+  map-broken : WellFormed b → SoundCpus b → Room b (length before) → (n p : ℕ) → Breaks b (length before) n p → MapBroken b (length before)
+  map-broken well sound room n p (Breaks.tables r) = absurd (well n p r)
+  map-broken well sound room n p (Breaks.cpus r) = go (cpu-place r)
+    where
+      go : CpuPlace n → MapBroken b (length before)
+      go (CpuPlace.early lt _ _) = absurd (sound n p r lt)
+      go (CpuPlace.phandle e _) = record { number = n; place = p; broken = Breaks.cpus r; low = omega arith; high = omega arith }
+  map-broken well sound room n p (Breaks.topology r) =
+      record { number = n; place = p; broken = Breaks.topology r; low = map-place r .from; high = map-place r .to }
+  map-broken well sound room n p (Breaks.noRoom cpus l lt) = absurd (room (Breaks.noRoom cpus l lt))
+
+  exactly : WellFormed b → SoundCpus b → Room b (length before) → (number ≡ 0) ↔ (((m : ℕ) × Map b m) × (MapBroken b (length before) → ⊥))
+  exactly well sound room =
+      (λ z. (the-map typed before (none z), λ h. none z (h .number) (h .place) (h .broken)), λ t. go (eqb number 0) refl (t .1))
+    where
+      go : (t : Bool) → eqb number 0 ≡ t → (MapBroken b (length before) → ⊥) → number ≡ 0
+      go true e no-rule = eqb-true number 0 e
+      go false e no-rule =
+          absurd (no-rule (map-broken well sound room _ _ (refusal (eqb-false number 0 e) .first .broken)))
+
+  -- the claim
+  pub demands : Demands b before answer buffer
+  demands =
+      record {
+        refused = λ ne. refusal (λ z. ne (answer-number ∙ z));
+        sound = λ z. none (sym answer-number ∙ z);
+        reading = λ well sound room.
+            record {
+              exactly = rw answer-number (exactly well sound room);
+              refused = λ ne. refusal (λ z. ne (answer-number ∙ z));
+              accepted = λ z. acceptance (sym answer-number ∙ z);
+            };
+      }

@@ -1,0 +1,56 @@
+-- What the reader answers, and what it leaves in the row buffer.
+use mathlib.Core.Bool.{cond}
+use mathlib.Core.List.{List, map}
+use Prim.Native.Nat.{ℕ, _*_}
+use lib.Dec.{eqb, ltb}
+use lib.ListN.{length}
+use Rattle.laws.specs.declared.Fault.{Fault}
+use Rattle.laws.specs.Fault.{told, orElse}
+use Rattle.affinity.specs.Mask.{maskOf}
+use Rattle.affinity.specs.Hash.{hashOf}
+use Rattle.affinity.specs.List.{noHash}
+use Rattle.tables.specs.Board.{Board}
+use Rattle.tables.specs.Check.{tableFault}
+use Rattle.cpus.specs.Check.{cpusFault, cpuCount, cpuList, mpidrAt, cpusOf, phandlesFault, phandleList}
+use Rattle.topology.specs.Find.{mapOf, mapFault}
+use Rattle.topology.specs.Scan.{Tree, tree, leavesFault, leavesOf}
+use Rattle.rows.specs.Fits.{rowSize}
+use Rattle.rows.specs.Write.{Source, source, written}
+use Rattle.board.specs.declared.BoardAnswer.{BoardAnswer}
+
+-- the tables with the map's record and the cpu records' phandles
+abbrev pub treeOf : Board → Tree
+treeOf b = tree (b .nodes) (b .props) (b .pool) (mapOf (b .nodes) (b .pool)) (phandleList (b .nodes) (b .props) (b .pool))
+
+-- rule 27
+abbrev pub roomFault : ℕ → ℕ → ℕ
+roomFault room cpus = cond (ltb room (rowSize * cpus)) 27 0
+
+-- the first of rules 1 to 27 that is broken
+unfoldable pub boardFault : Board → ℕ → Fault
+boardFault b room =
+    orElse (tableFault b)
+    (orElse (cpusFault b)
+    (orElse (mapFault (b .nodes) (b .pool))
+    (orElse (phandlesFault (b .nodes) (b .props) (b .pool)) (orElse (leavesFault (treeOf b)) (told (roomFault room (cpuCount b)) 0)))))
+
+-- the MPIDRs of the cpu records
+abbrev pub mpidrList : Board → List ℕ
+mpidrList b = map (mpidrAt b) (cpuList b)
+
+-- what the rows of an accepted board are made of
+abbrev pub sourceOf : Board → Source
+sourceOf b = source (b .nodes) (b .pool) (cpusOf b) (leavesOf (treeOf b)) (maskOf (mpidrList b))
+
+-- a refusal: every other result is 0
+abbrev pub refusedWith : ℕ → ℕ → BoardAnswer
+refusedWith number place = record { number = number; place = place; count = 0; hash = noHash }
+
+unfoldable pub answerOf : Board → ℕ → BoardAnswer
+answerOf b room =
+    cond (eqb (boardFault b room .number) 0) (record { number = 0; place = 0; count = cpuCount b; hash = hashOf (mpidrList b) })
+    (refusedWith (boardFault b room .number) (boardFault b room .place))
+
+-- the row buffer after the call
+unfoldable pub rowsAfter : Board → List ℕ → List ℕ
+rowsAfter b before = cond (eqb (boardFault b (length before) .number) 0) (written (sourceOf b) before) before

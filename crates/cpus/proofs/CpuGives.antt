@@ -1,0 +1,81 @@
+-- What sound cpu nodes have. Assumes nothing.
+use mathlib.Core.Path.{_≡_, sym, ap, _∙_}
+use mathlib.Core.Logic.{⊎-elim}
+use Prim.Native.Nat.{ℕ, _<_}
+use native.Mathlib.Omega.{arith}
+use Rattle.laws.proofs.FirstLaws.{compared}
+use Rattle.tables.specs.Board.{Board, Typed}
+use Rattle.tables.specs.Rules.{WellFormed}
+use Rattle.cpus.specs.declared.Cell.{Cell}
+use Rattle.cpus.specs.declared.Mpidr.{Mpidr}
+use Rattle.cpus.specs.Node.{Cpu, Reg, mpidr, Phandle}
+use Rattle.cpus.specs.Rules.{CpuRule, SoundCpus}
+use Rattle.cpus.specs.Check.{mpidrNumber, mpidrAt, phandleOf, cellNumber}
+use Rattle.cpus.proofs.RegMeans.{reg-bounds, value-reg, RegSays, reg-says, test-mpidr, PhandleSays, phandle-says, phandle-test}
+use Rattle.cpus.proofs.PairMeans.{mpidr-apart}
+use Rattle.cpus.proofs.FaultMeans.{Verdict, Root, CountRange, root-told, count-told}
+
+-- what holds where a rule is not broken
+held : {b : Board} {n p v : ℕ} {P : Type 0} → Verdict b n p P v → (CpuRule b n p → ⊥) → P
+held (Verdict.sound p) none = p
+held (Verdict.broken r) none = absurd (none r)
+
+-- records of which neither can be the earlier are the same
+same-record : (i j : ℕ) → (j < i → ⊥) → (i < j → ⊥) → i ≡ j
+same-record i j f g = ⊎-elim (λ lt. absurd (g lt)) (⊎-elim (λ e. e) (λ lt. absurd (f lt))) (compared i j)
+
+module _ {b : Board} (typed : Typed b) (well : WellFormed b) where
+  module _ (sound : SoundCpus b) where
+    -- `/cpus` itself, and the number of cpu records
+    pub root-given : Root b
+    root-given = held (root-told typed well) (λ r. sound 9 0 r (omega arith))
+
+    pub count-range : CountRange b
+    count-range = held (count-told typed well) (λ r. sound 10 0 r (omega arith))
+
+    -- each cpu record has a `reg`, which is its MPIDR ..
+    pub cpu-reg : {i : ℕ} → Cpu b i → (u : ℕ) × (l : ℕ) × Reg b i u l × (mpidrAt b i ≡ mpidr u l)
+    cpu-reg {i} c = go (reg-says typed well (root-given .cells) i)
+      where
+        go : {m : Mpidr} → RegSays b i m → (u : ℕ) × (l : ℕ) × Reg b i u l × (mpidrAt b i ≡ mpidr u l)
+        go (RegSays.reg {u = u} {l = l} r _) = (u, l, r, ap mpidrNumber (test-mpidr typed well r))
+        go (RegSays.none f) = absurd (sound 12 i (CpuRule.reg i c f) (omega arith))
+
+    -- .. and no other cpu record has the same
+    pub reg-apart : {i j u l : ℕ} → Cpu b i → Cpu b j → Reg b i u l → Reg b j u l → i ≡ j
+    reg-apart {i} {j} c d r s = same-record i j (later c d r s) (later d c s r)
+      where
+        later : {i j u l : ℕ} → Cpu b i → Cpu b j → Reg b i u l → Reg b j u l → j < i → ⊥
+        later {i} {j} c d r s lt = let t = value-reg well r s in sound 13 i (CpuRule.repeatedReg i j (t .0) c d lt (t .1) (t .2)) (omega arith)
+
+    pub mpidr-distinct : {i j : ℕ} → Cpu b i → Cpu b j → mpidrAt b i ≡ mpidrAt b j → i ≡ j
+    mpidr-distinct c d e =
+        let r = cpu-reg c in
+        let s = cpu-reg d in
+        let g = reg-bounds (r .2) in
+        let h = reg-bounds (s .2) in
+        let p = mpidr-apart (r .0) (r .1) (g .0) (g .1) (s .0) (s .1) (h .0) (h .1) (sym (r .3) ∙ e ∙ s .3) in
+        reg-apart c d (r .2) (rw (p .0, p .1) (s .2))
+
+  module _ (none : (p : ℕ) → CpuRule b 17 p → ⊥) where
+    -- each cpu record has a phandle ..
+    pub cpu-phandle : {i : ℕ} → Cpu b i → (h : ℕ) × Phandle b i h × (cellNumber (phandleOf (b .props) (b .pool) i) ≡ h)
+    cpu-phandle {i} c = go (phandle-says typed well i)
+      where
+        go : {x : Cell} → PhandleSays b i x → (h : ℕ) × Phandle b i h × (cellNumber (phandleOf (b .props) (b .pool) i) ≡ h)
+        go (PhandleSays.phandle {h = h} p) = (h, p, ap cellNumber (phandle-test typed well i .1 p))
+        go (PhandleSays.none f) = absurd (none i (CpuRule.phandle i c f))
+
+    -- .. and no other cpu record has the same
+    pub phandle-apart : {i j h : ℕ} → Cpu b i → Cpu b j → Phandle b i h → Phandle b j h → i ≡ j
+    phandle-apart {i} {j} c d p q = same-record i j (later c d p q) (later d c q p)
+      where
+        later : {i j h : ℕ} → Cpu b i → Cpu b j → Phandle b i h → Phandle b j h → j < i → ⊥
+        later {i} {j} {h} c d p q lt = none i (CpuRule.repeatedPhandle i j h c d lt p q)
+
+    pub phandle-distinct : {i j : ℕ} → Cpu b i → Cpu b j → cellNumber (phandleOf (b .props) (b .pool) i) ≡ cellNumber (phandleOf (b .props) (b .pool) j) → i ≡ j
+    phandle-distinct c d e =
+        let p = cpu-phandle c in
+        let q = cpu-phandle d in
+        let same : q .0 ≡ p .0 = sym (q .2) ∙ sym e ∙ p .2 in
+        phandle-apart c d (p .1) (rw same at (q .1))

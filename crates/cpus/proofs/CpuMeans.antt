@@ -1,0 +1,92 @@
+-- What the tests of cpu records say, and the list of them. Assumes nothing.
+use mathlib.Core.Path.{_≡_, sym, ap, _∙_}
+use mathlib.Core.Bool.{false, cond}
+use mathlib.Core.Logic.{_⊎_, ⊎-elim}
+use mathlib.Core.List.{List, _++_}
+use Prim.Native.Nat.{ℕ, _+_, _-_, _≤_}
+use native.Mathlib.Omega.{arith}
+use lib.Dec.{ltb}
+use lib.ListN.{length, take, drop, length-take, length-append}
+use lib.Seq.{take-take, take-add, take-append-seam}
+use Rattle.laws.specs.Listing.{Listing}
+use Rattle.laws.proofs.SearchLaws.{lt-or-le, list-length}
+use Rattle.laws.proofs.ListingLaws.{listed}
+use Rattle.laws.proofs.DecideLaws.{Decides, decides-not, decides-as, eq-decides, lt-decides, then-decides, both-decides, either-decides, without-decides}
+use Rattle.tables.specs.Board.{Board, Inside, range, rangeIs, nodeCount, nodeName, parentWord, nameOffset, nameLength}
+use Rattle.tables.specs.Tree.{Child}
+use Rattle.tables.specs.Rules.{WellFormed}
+use Rattle.tables.proofs.LookupLaws.{range-is-true, true-range-is}
+use Rattle.tables.proofs.WellFormedLaws.{wf-name}
+use Rattle.cpus.specs.Words.{cpuWord, cpuUnit}
+use Rattle.cpus.specs.Node.{Begins, Cpu}
+use Rattle.cpus.specs.Check.{isChild, isCpuName, isCpu, cpuCount, cpuList}
+
+-- children
+pub child-test : (nodes : List ℕ) (p i : ℕ) → Decides (isChild nodes p i) (Child nodes p i)
+unfolding isChild
+child-test nodes p i =
+    decides-as (both-decides (lt-decides i (nodeCount nodes)) (both-decides (eq-decides (parentWord nodes i) p) (lt-decides p i)))
+    (λ h. record { inside = h .0; word = h .1 .0; earlier = h .1 .1 })
+    (λ c. (c .inside, (c .word, c .earlier)))
+
+pub not-child-test : (nodes : List ℕ) (p i : ℕ) → (isChild nodes p i ≡ false → Child nodes p i → ⊥) × ((Child nodes p i → ⊥) → isChild nodes p i ≡ false)
+not-child-test nodes p i = decides-not (child-test nodes p i)
+
+-- the test of a range, and of one that lies inside the pool
+pub range-decides : (pool : List ℕ) (offset len : ℕ) (bytes : List ℕ) → Decides (rangeIs pool offset len bytes) (Inside pool offset len × (range pool offset len ≡ bytes))
+range-decides pool offset len bytes = (range-is-true pool offset len bytes, λ h. true-range-is pool offset len bytes (h .0) (h .1))
+
+pub range-test : (pool : List ℕ) (offset len : ℕ) (bytes : List ℕ) → Inside pool offset len → Decides (rangeIs pool offset len bytes) (range pool offset len ≡ bytes)
+range-test pool offset len bytes inside = decides-as (range-decides pool offset len bytes) (λ h. h .1) (λ e. (inside, e))
+
+-- a range of the pool begins with given bytes where its first part is these bytes
+module _ (l start : List ℕ) (len : ℕ) where
+  starts-begins : length start ≤ len → take (length start) l ≡ start → Begins (take len l) start
+  starts-begins le e =
+      let split : len ≡ length start + (len - length start) = omega arith in
+      record {
+        rest = take (len - length start) (drop (length start) l);
+        whole = ap (λ (n : ℕ). take n l) split ∙ take-add (length start) (len - length start) l ∙ ap (λ (s : List ℕ). s ++ take (len - length start) (drop (length start) l)) e;
+      }
+
+  begins-starts : Begins (take len l) start → (length start ≤ len) × (take (length start) l ≡ start)
+  begins-starts h = (le, sym (take-take (length start) len l le) ∙ ap (take (length start)) (h .whole) ∙ take-append-seam start (h .rest))
+    where
+      le : length start ≤ len
+      le = omega (arith, sym (length-take len l) ∙ ap length (h .whole) ∙ length-append start (h .rest))
+
+module _ {b : Board} (well : WellFormed b) where
+  module _ (i : ℕ) where
+    abbrev offset : ℕ
+    offset = nameOffset (b .nodes) i
+
+    abbrev len : ℕ
+    len = nameLength (b .nodes) i
+
+    name-test : Inside (b .pool) offset len → Decides (isCpuName (b .pool) offset len) ((nodeName b i ≡ cpuWord) ⊎ Begins (nodeName b i) cpuUnit)
+    unfolding isCpuName
+    name-test inside = either-decides (range-test (b .pool) offset len cpuWord inside) unit
+      where
+        unit : Decides (cond (ltb len 4) false (rangeIs (b .pool) offset 4 cpuUnit)) (Begins (nodeName b i) cpuUnit)
+        unit =
+            decides-as (without-decides (lt-decides len 4) (range-decides (b .pool) offset 4 cpuUnit))
+            (λ h. starts-begins (drop offset (b .pool)) cpuUnit len (⊎-elim (λ l. absurd (h .0 l)) (λ l. l) (lt-or-le len 4)) (h .1 .1))
+            (λ h. let t = begins-starts (drop offset (b .pool)) cpuUnit len h in let le = t .0 in (λ l. omega arith, (omega arith, t .1)))
+
+    -- cpu records
+    pub cpu-test : Decides (isCpu (b .nodes) (b .pool) i) (Cpu b i)
+    unfolding isCpu
+    cpu-test =
+        decides-as (then-decides (child-test (b .nodes) 0 i) (λ c. name-test (wf-name well i (c .inside) .inside)))
+        (λ h. record { child = h .0; name = h .1 })
+        (λ c. (c .child, c .name))
+
+    pub not-cpu-test : (isCpu (b .nodes) (b .pool) i ≡ false → Cpu b i → ⊥) × ((Cpu b i → ⊥) → isCpu (b .nodes) (b .pool) i ≡ false)
+    not-cpu-test = decides-not cpu-test
+
+  -- the list of cpu records
+  pub cpu-listing : Listing (Cpu b) (cpuList b)
+  cpu-listing = listed (isCpu (b .nodes) (b .pool)) (nodeCount (b .nodes)) (λ i c. (c .child .inside, cpu-test i .1 c)) (λ i _. cpu-test i .0)
+
+pub cpu-count : (b : Board) → cpuCount b ≡ length (cpuList b)
+cpu-count b = sym (list-length (isCpu (b .nodes) (b .pool)) (nodeCount (b .nodes)))

@@ -1,0 +1,237 @@
+-- The checks of rules 9 to 13 and of rule 17 tell the first of them that is broken. Assumes nothing.
+use mathlib.Core.Path.{_≡_, refl, sym, ap, subst, _∙_}
+use mathlib.Core.Bool.{Bool, true, false, cond}
+use mathlib.Core.Logic.{⊎-elim}
+use mathlib.Core.List.{List}
+use Prim.Native.Nat.{ℕ, _≤_, _<_}
+use native.Mathlib.Omega.{arith}
+use lib.Dec.{ltb}
+use borrow.Author.Tests.{le-ltb}
+use Rattle.laws.specs.declared.Fault.{Fault}
+use Rattle.laws.specs.Fault.{clear, told, orElse, firstFault}
+use Rattle.laws.specs.Search.{countBelow}
+use Rattle.laws.proofs.FaultLaws.{place-le}
+use Rattle.laws.proofs.FirstLaws.{Tells, Stage, stage-tells, end-tells}
+use Rattle.laws.proofs.RuleStageLaws.{else-assoc, Clears, first-clears, else-clears, else-clear, told-place, else-place, Once, once-tells}
+use Rattle.laws.proofs.DecideLaws.{eq-decides, holds-unless}
+use Rattle.tables.specs.Board.{Board, Typed, nodeCount}
+use Rattle.tables.specs.Order.{stage}
+use Rattle.tables.specs.Rules.{WellFormed}
+use Rattle.cpus.specs.Node.{Cpu, AddressCells}
+use Rattle.cpus.specs.Rules.{maxCpus, CpuRule, SoundCpus}
+use Rattle.cpus.specs.Check.{isCpu, addressCells, rootFault, cpuCount, countFault, cpuFault, cpusFault, phandleFault, phandlesFault}
+use Rattle.cpus.proofs.RegMeans.{value-reg}
+use Rattle.cpus.proofs.FaultMeans.{Verdict, Root, CpuSays, OwnPhandle, root-told, count-told, cpu-says, phandle-told}
+use Rattle.cpus.proofs.CpuGives.{count-range}
+use Rattle.cpus.proofs.RuleMeans.{staged, at-seven, at-eight, at-nine, at-twelve, early}
+
+-- with at most 256 cpu records, the first that breaks rule 17
+phandles-are :
+    {b : Board} (typed : Typed b) (well : WellFormed b) →
+    SoundCpus b →
+    phandlesFault (b .nodes) (b .props) (b .pool) ≡ firstFault (phandleFault (b .nodes) (b .props) (b .pool)) (nodeCount (b .nodes))
+unfolding phandlesFault
+phandles-are {b} typed well sound = rw (le-ltb maxCpus (cpuCount b) (count-range typed well sound .1))
+
+module _ {b : Board} (typed : Typed b) (well : WellFormed b) (R : ℕ → ℕ → Type 0) where
+  module _
+      (into : (n p : ℕ) → CpuRule b n p → n < 14 → R n p)
+      (back : (n p : ℕ) → R n p → 7 ≤ stage n → stage n ≤ 9 → CpuRule b n p) where
+    -- a rule that is told of place 0 alone
+    once :
+        {n v s : ℕ} {P : Type 0} →
+        Verdict b n 0 P v →
+        (n ≡ 0 → ⊥) →
+        n < 14 →
+        stage n ≡ s →
+        ((m q : ℕ) → R m q → stage m ≡ s → (m ≡ n) × (q ≡ 0) × (P → ⊥)) →
+        Once stage R s v
+    once (Verdict.sound p) ne lt e only = record { sound = λ f. absurd (f refl); only = λ m q r d. absurd (only m q r d .2 p) }
+    once {n} (Verdict.broken r) ne lt e only =
+        record { sound = λ _. (into n 0 r lt, e); only = λ m q x d. let t = only m q x d in (ne, t .0, t .1) }
+
+    root-once : Once stage R 7 (rootFault b)
+    root-once =
+        once (root-told typed well) (λ z. omega arith) (omega arith) refl
+        (λ m q r e. at-seven well (staged well (back m q r (omega arith) (omega arith))) e)
+
+    count-once : Once stage R 8 (countFault (cpuCount b))
+    count-once =
+        once (count-told typed well) (λ z. omega arith) (omega arith) refl
+        (λ m q r e. at-eight well (staged well (back m q r (omega arith) (omega arith))) e)
+
+    cpu-stage : AddressCells b (addressCells b) → Stage stage R 9 (nodeCount (b .nodes)) (cpuFault b)
+    cpu-stage a =
+        record {
+          inside = λ m q r e. at m q r e .0 .child .inside;
+          sound = λ q _ _. broken (cpu-says typed well a q);
+          least = λ q _ _ m r e. at m q r e .1 (cpuFault b q) (cpu-says typed well a q);
+        }
+      where
+        at : (m q : ℕ) → R m q → stage m ≡ 9 → Cpu b q × ((v : ℕ) → CpuSays b q v → (v ≡ 0 → ⊥) × (v ≤ m))
+        at m q r e = at-nine well (staged well (back m q r (omega arith) (omega arith))) e
+
+        broken : {q v : ℕ} → CpuSays b q v → (v ≡ 0 → ⊥) → R v q × (stage v ≡ 9)
+        broken (CpuSays.other _) ne = absurd (ne refl)
+        broken {q} (CpuSays.untyped c f) ne = (into 11 q (CpuRule.deviceType q c f) (omega arith), refl)
+        broken {q} (CpuSays.unread c _ f) ne = (into 12 q (CpuRule.reg q c f) (omega arith), refl)
+        broken {q} (CpuSays.repeated {j = j} c _ r lt d s) ne =
+            let t = value-reg well r s in
+            (into 13 q (CpuRule.repeatedReg q j (t .0) c d lt (t .1) (t .2)) (omega arith), refl)
+        broken (CpuSays.sound _ _ _ _) ne = absurd (ne refl)
+
+    -- rules 9 to 13, in their three stages
+    early-tells : (after : Fault) → (SoundCpus b → Tells stage R 10 after) → Tells stage R 7 (orElse (cpusFault b) after)
+    unfolding cpusFault
+    early-tells after rest =
+        subst (Tells stage R 7) (sym (else-assoc first (orElse second third) after ∙ ap (orElse first) (else-assoc second third after)))
+        (once-tells stage R 7 (rootFault b) (orElse second (orElse third after)) root-once
+        (λ none-root.
+        once-tells stage R 8 (countFault (cpuCount b)) (orElse third after) count-once
+        (λ none-count.
+        stage-tells stage R 9 (nodeCount (b .nodes)) (cpuFault b) after (cpu-stage (cells (λ r. none-root 9 0 r refl) (root-told typed well)))
+        (λ none-cpu. rest (λ n p r lt. let x = into n p r lt in ⊎-elim (none-root n p x) (⊎-elim (none-count n p x) (none-cpu n p x)) (early well (staged well r) lt))))))
+      where
+        first : Fault
+        first = told (rootFault b) 0
+
+        second : Fault
+        second = told (countFault (cpuCount b)) 0
+
+        third : Fault
+        third = firstFault (cpuFault b) (nodeCount (b .nodes))
+
+        cells : (R 9 0 → ⊥) → {v : ℕ} → Verdict b 9 0 (Root b) v → AddressCells b (addressCells b)
+        cells none (Verdict.sound r) = r .cells
+        cells none (Verdict.broken r) = absurd (none (into 9 0 r (omega arith)))
+
+  module _ (into : (p : ℕ) → CpuRule b 17 p → R 17 p) (back : (n p : ℕ) → R n p → stage n ≡ 12 → CpuRule b n p) where
+    phandle-stage : Stage stage R 12 (nodeCount (b .nodes)) (phandleFault (b .nodes) (b .props) (b .pool))
+    phandle-stage =
+        record {
+          inside = λ m q r e. at m q r e .1 .child .inside;
+          sound = λ q _ _. broken (phandle-told typed well q);
+          least = λ q _ _ m r e. let t = at m q r e in least (phandle-told typed well q) (t .2) (t .0);
+        }
+      where
+        at : (m q : ℕ) → R m q → stage m ≡ 12 → (m ≡ 17) × Cpu b q × (OwnPhandle b q → ⊥)
+        at m q r e = at-twelve well (staged well (back m q r e)) e
+
+        broken : {q v : ℕ} → Verdict b 17 q (OwnPhandle b q) v → (v ≡ 0 → ⊥) → R v q × (stage v ≡ 12)
+        broken (Verdict.sound _) ne = absurd (ne refl)
+        broken {q} (Verdict.broken r) ne = (into q r, refl)
+
+        least : {q v m : ℕ} → Verdict b 17 q (OwnPhandle b q) v → (OwnPhandle b q → ⊥) → m ≡ 17 → (v ≡ 0 → ⊥) × (v ≤ m)
+        least (Verdict.sound p) f e = absurd (f p)
+        least (Verdict.broken r) f e = (λ z. omega arith, omega arith)
+
+    -- rule 17
+    late-tells :
+        SoundCpus b →
+        (after : Fault) →
+        (((p : ℕ) → CpuRule b 17 p → ⊥) → Tells stage R 13 after) →
+        Tells stage R 12 (orElse (phandlesFault (b .nodes) (b .props) (b .pool)) after)
+    late-tells sound after rest =
+        rw (phandles-are typed well sound)
+        (stage-tells stage R 12 (nodeCount (b .nodes)) (phandleFault (b .nodes) (b .props) (b .pool)) after phandle-stage
+        (λ none. rest (λ p r. none 17 p (into p r) refl)))
+
+  -- a family with all these rules, in which no other rule is of their stages
+  module _ (into : (n p : ℕ) → CpuRule b n p → R n p) where
+    pub cpus-tells :
+        ((n p : ℕ) → R n p → 7 ≤ stage n → stage n ≤ 9 → CpuRule b n p) →
+        (after : Fault) →
+        (SoundCpus b → Tells stage R 10 after) →
+        Tells stage R 7 (orElse (cpusFault b) after)
+    cpus-tells = early-tells (λ n p r _. into n p r)
+
+    pub phandles-tells :
+        ((n p : ℕ) → R n p → stage n ≡ 12 → CpuRule b n p) →
+        SoundCpus b →
+        (after : Fault) →
+        (((p : ℕ) → CpuRule b 17 p → ⊥) → Tells stage R 13 after) →
+        Tells stage R 12 (orElse (phandlesFault (b .nodes) (b .props) (b .pool)) after)
+    phandles-tells = late-tells (into 17)
+
+-- what is told where no rule is broken, and of which places
+module _ (b : Board) where
+  pub cpus-clears : Clears (cpusFault b)
+  unfolding cpusFault
+  cpus-clears =
+      else-clears (told (rootFault b) 0) (orElse (told (countFault (cpuCount b)) 0) (firstFault (cpuFault b) (nodeCount (b .nodes))))
+      (else-clears (told (countFault (cpuCount b)) 0) (firstFault (cpuFault b) (nodeCount (b .nodes))) (first-clears (cpuFault b) (nodeCount (b .nodes))))
+
+  pub cpus-place : cpusFault b .place ≤ nodeCount (b .nodes)
+  unfolding cpusFault
+  cpus-place =
+      let count = nodeCount (b .nodes) in
+      else-place (told (rootFault b) 0) (orElse (told (countFault (cpuCount b)) 0) (firstFault (cpuFault b) count))
+      (omega (arith, told-place (rootFault b) 0))
+      (λ _.
+      else-place (told (countFault (cpuCount b)) 0) (firstFault (cpuFault b) count)
+      (omega (arith, told-place (countFault (cpuCount b)) 0))
+      (λ _. place-le (cpuFault b) count))
+
+module _ (nodes props pool : List ℕ) where
+  pub phandles-clears : Clears (phandlesFault nodes props pool)
+  unfolding phandlesFault
+  phandles-clears = go (ltb maxCpus (countBelow (isCpu nodes pool) (nodeCount nodes)))
+    where
+      go : (t : Bool) → Clears (cond t (told 10 0) (firstFault (phandleFault nodes props pool) (nodeCount nodes)))
+      go true = λ z. absurd (omega arith)
+      go false = first-clears (phandleFault nodes props pool) (nodeCount nodes)
+
+  pub phandles-place : phandlesFault nodes props pool .place ≤ nodeCount nodes
+  unfolding phandlesFault
+  phandles-place = go (ltb maxCpus (countBelow (isCpu nodes pool) (nodeCount nodes)))
+    where
+      go : (t : Bool) → cond t (told 10 0) (firstFault (phandleFault nodes props pool) (nodeCount nodes)) .place ≤ nodeCount nodes
+      go true = omega arith
+      go false = place-le (phandleFault nodes props pool) (nodeCount nodes)
+
+module _ {b : Board} (typed : Typed b) (well : WellFormed b) where
+  abbrev Early : ℕ → ℕ → Type 0
+  Early n p = CpuRule b n p × (n < 14)
+
+  early-stage : {n p : ℕ} → Early n p → (7 ≤ stage n) × (stage n < 10)
+  early-stage r =
+      ⊎-elim (λ e. (omega arith, omega arith)) (⊎-elim (λ e. (omega arith, omega arith)) (λ e. (omega arith, omega arith)))
+      (early well (staged well (r .0)) (r .1))
+
+  cpus-tell : Tells stage Early 7 (cpusFault b)
+  cpus-tell =
+      subst (Tells stage Early 7) (else-clear (cpusFault b) (cpus-clears b))
+      (early-tells typed well Early (λ n p r lt. (r, lt)) (λ n p r _ _. r .0) clear (λ _. end-tells stage Early 10 (λ m q r. early-stage r .1)))
+
+  -- nothing is told exactly when the cpu nodes are sound
+  pub cpus-sound : (cpusFault b .number ≡ 0 → SoundCpus b) × (SoundCpus b → cpusFault b .number ≡ 0)
+  cpus-sound = (
+    λ z n p r lt. cpus-tell .none z .1 n p (r, lt) (early-stage (r, lt) .0),
+    λ sound. holds-unless (eq-decides (cpusFault b .number) 0) (λ ne. let t = cpus-tell .broken ne in sound (cpusFault b .number) (cpusFault b .place) (t .0) (t .1)),
+  )
+
+  pub cpus-clear : SoundCpus b → cpusFault b ≡ clear
+  cpus-clear sound = cpus-clears b (cpus-sound .1 sound)
+
+  abbrev phandles : Fault
+  phandles = phandlesFault (b .nodes) (b .props) (b .pool)
+
+  abbrev Late : ℕ → ℕ → Type 0
+  Late n p = CpuRule b n p × (n ≡ 17)
+
+  module _ (sound : SoundCpus b) where
+    phandles-tell : Tells stage Late 12 phandles
+    phandles-tell =
+        subst (Tells stage Late 12) (else-clear phandles (phandles-clears (b .nodes) (b .props) (b .pool)))
+        (late-tells typed well Late (λ p r. (r, refl)) (λ n p r _. r .0) sound clear
+        (λ _. end-tells stage Late 13 (λ m q r. rw (r .1) (omega arith))))
+
+    -- nothing is told exactly when rule 17 is not broken
+    pub phandles-sound : (phandles .number ≡ 0 → (p : ℕ) → CpuRule b 17 p → ⊥) × (((p : ℕ) → CpuRule b 17 p → ⊥) → phandles .number ≡ 0)
+    phandles-sound = (
+      λ z p r. phandles-tell .none z .1 17 p (r, refl) (omega arith),
+      λ none. holds-unless (eq-decides (phandles .number) 0) (λ ne. let t = phandles-tell .broken ne in none (phandles .place) (rw (t .1) at (t .0))),
+    )
+
+    pub phandles-clear : ((p : ℕ) → CpuRule b 17 p → ⊥) → phandles ≡ clear
+    phandles-clear none = phandles-clears (b .nodes) (b .props) (b .pool) (phandles-sound .1 none)

@@ -1,0 +1,130 @@
+-- `gather` meets its contract: the pass holds before each record. Assumes nothing.
+use mathlib.Core.Path.{_≡_, sym, _∙_}
+use mathlib.Core.Bool.{true}
+use Prim.Native.Nat.{_≤_, _<_, _-_}
+use native.Mathlib.Omega.{arith}
+use borrow.Author.Tests.{not-true, not-false}
+use lib.Seq.{length-take-le}
+use Rattle.laws.proofs.GatherLaws.{count-at}
+use Rattle.tables.specs.Board.{nodeCount}
+use Rattle.cpus.specs.Check.{isCpu}
+use Rattle.cpus.specs.Gather.{readingOf, repeatRule}
+use Rattle.cpus.proofs.CodeLaws.{Pass, pass-start, pass-over, pass-next, pass-told, pass-end, pass-lengths}
+use borrow.Author.Needs.{needs}
+use Rattle.cpus.proofs.gather.gather.Statement.{statement}
+use Rattle.cpus.proofs.gather.gather.Tie as tie
+
+abbrev Inv-loop : tie.InvT-loop
+Inv-loop wanted nodes props pool n records₀ values₀ count₀ i₀ records values count i =
+    (i ≤ n) × Pass (isCpu nodes pool) (readingOf wanted props pool) (repeatRule wanted) i count records values
+
+abbrev μ-loop : tie.MeasureT-loop
+μ-loop wanted nodes props pool n records₀ values₀ count₀ i₀ records values count i = n - i
+
+loop-holds : tie.Need-loop-holds Inv-loop μ-loop
+loop-holds c = (omega arith, pass-start _ _ _)
+
+is-cpu-requires : tie.Need-is-cpu-requires Inv-loop μ-loop
+is-cpu-requires c κs = search needs
+
+add-i : tie.Need-add-i Inv-loop μ-loop
+add-i c = search needs
+
+loop-less : tie.Need-loop-less Inv-loop μ-loop
+loop-less c = search needs
+
+loop-again : tie.Need-loop-again Inv-loop μ-loop
+loop-again c =
+    let loop = c .before .before .before .loop in
+    (omega arith, pass-over _ _ _ _ (loop .inv .1) (sym (c .before .is-cpu .ensures) ∙ not-true _ (c .if1 .taken)))
+
+-- record i is a cpu record
+cpu :
+    (c : tie.Else1 Inv-loop μ-loop) →
+    let a = c .before .before .before .before .before .before .before .args in
+    isCpu (a .nodes .now) (a .pool .now) (c .before .before .before .loop .i) ≡ true
+cpu c = sym (c .before .is-cpu .ensures) ∙ not-false _ (c .if1 .left)
+
+-- it is not yet counted, so that there is room for it
+room : (c : tie.Else1 Inv-loop μ-loop) → c .before .before .before .loop .count < 256
+room c =
+    let start = c .before .before .before .before .before .before .before in
+    let loop = c .before .before .before .loop in
+    omega (arith, start .pre, loop .inv .1 .counted, count-at (isCpu (start .args .nodes .now) (start .args .pool .now)) (loop .i) (nodeCount (start .args .nodes .now)) (omega arith) (cpu c))
+
+array-share-prefix-values : tie.Need-array-share-prefix-values Inv-loop μ-loop
+array-share-prefix-values c = omega (arith, room c, pass-lengths _ _ _ (c .before .before .before .loop .inv .1) .1)
+
+slice-aggregate-next-reading : tie.Need-slice-aggregate-next-reading Inv-loop μ-loop
+slice-aggregate-next-reading c =
+    let loop = c .before .before .before .before .loop in
+    sym (length-take-le (loop .count) (loop .values) (omega (arith, room (c .before), pass-lengths _ _ _ (loop .inv .1) .1)))
+
+next-reading-requires : tie.Need-next-reading-requires Inv-loop μ-loop
+next-reading-requires c κs = search needs
+
+refuse-requires : tie.Need-refuse-requires Inv-loop μ-loop
+refuse-requires c κs = search needs
+
+returns : tie.Need-returns Inv-loop μ-loop
+returns c =
+    let call = c .before .before .before in
+    let here = call .before .before in
+    c .refuse .ensures
+    ∙ pass-told _ _ _ _ (here .before .before .before .loop .inv .1) (cpu here) (room here) (call .next-reading .ensures) _ (omega arith) (c .before .if2 .taken)
+
+mul-records : tie.Need-mul-records Inv-loop μ-loop
+mul-records c = omega (arith, room (c .before .before .before .before))
+
+array-write-records : tie.Need-array-write-records Inv-loop μ-loop
+array-write-records c = room (c .before .before .before .before)
+
+mul-values : tie.Need-mul-values Inv-loop μ-loop
+mul-values c = omega (arith, room (c .before .before .before .before))
+
+array-write-values : tie.Need-array-write-values Inv-loop μ-loop
+array-write-values c = room (c .before .before .before .before)
+
+add-count : tie.Need-add-count Inv-loop μ-loop
+add-count c = omega (arith, room (c .before .before .before .before))
+
+add-i-2 : tie.Need-add-i-2 Inv-loop μ-loop
+add-i-2 c = search needs
+
+loop-less-2 : tie.Need-loop-less-2 Inv-loop μ-loop
+loop-less-2 c = search needs
+
+loop-again-2 : tie.Need-loop-again-2 Inv-loop μ-loop
+loop-again-2 c =
+    let call = c .before .before in
+    let here = call .before .before in
+    (omega arith, pass-next _ _ _ _ (here .before .before .before .loop .inv .1) (cpu here) (room here) (call .next-reading .ensures) (c .if2 .left))
+
+returns-2 : tie.Need-returns-2 Inv-loop μ-loop
+returns-2 c = pass-end _ _ _ _ _ (c .before .loop .inv .1) (omega arith)
+
+pub gather-spec : {M : Type 1} → statement M
+gather-spec =
+    tie.close
+    (tie.spec
+    Inv-loop
+    μ-loop
+    loop-holds
+    is-cpu-requires
+    add-i
+    loop-less
+    loop-again
+    array-share-prefix-values
+    slice-aggregate-next-reading
+    next-reading-requires
+    refuse-requires
+    returns
+    mul-records
+    array-write-records
+    mul-values
+    array-write-values
+    add-count
+    add-i-2
+    loop-less-2
+    loop-again-2
+    returns-2)

@@ -1,0 +1,2 @@
+// The limit of rule 10.
+pub const MAX_CPUS: usize = 256;

@@ -1,0 +1,41 @@
+// Cpu records: the children of record 0 named `cpu` or beginning `cpu@`.
+use tables::node_word;
+use tables::range_is;
+ghost use mathlib.Core.Path.{_≡_};
+ghost use Rattle.cpus.specs.Check.{isChild, isCpuName, isCpu};
+
+// Whether record i is a child of record p.
+pub fn is_child(nodes: &[u32], p: usize, i: usize) -> bool
+    ensures { λ r. ⌜ r ≡ isChild (now (nodes .entry)) p i ⌝ }
+{
+    if nodes.len() / 3 <= i {
+        return false;
+    }
+    if node_word(nodes, i, 0) != p {
+        return false;
+    }
+    p < i
+}
+
+// Whether a name is `cpu` or begins `cpu@`.
+fn is_cpu_name(pool: &[u8], offset: usize, len: usize) -> bool
+    ensures { λ r. ⌜ r ≡ isCpuName (now (pool .entry)) offset len ⌝ }
+{
+    if range_is(pool, offset, len, b"cpu") {
+        return true;
+    }
+    if len < 4 {
+        return false;
+    }
+    range_is(pool, offset, 4, b"cpu@")
+}
+
+// Whether record i is a cpu record.
+pub fn is_cpu(nodes: &[u32], pool: &[u8], i: usize) -> bool
+    ensures { λ r. ⌜ r ≡ isCpu (now (nodes .entry)) (now (pool .entry)) i ⌝ }
+{
+    if is_child(nodes, 0, i) {
+        return is_cpu_name(pool, node_word(nodes, i, 1), node_word(nodes, i, 2));
+    }
+    false
+}

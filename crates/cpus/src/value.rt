@@ -1,0 +1,92 @@
+// A property's value as cells or as given bytes.
+use crate::Cell;
+use crate::Mpidr;
+use affinity::is_affine;
+use tables::Lookup;
+use tables::cell_at;
+use tables::find_property;
+use tables::prop_word;
+use tables::value_is;
+ghost use mathlib.Core.Path.{_≡_};
+ghost use Prim.Native.Nat.{_+_, _*_, _≤_};
+ghost use lib.ListN.{length};
+ghost use Rattle.cpus.specs.Cell.{valueSized, cellOf, hasValue, cellsAt, affineOnly, mpidrOf};
+
+// Whether property k's value lies inside the pool and has so many cells.
+fn has_cells(props: &[u32], pool: &[u8], cells: usize, k: usize) -> bool
+    ensures { λ r. ⌜ r ≡ valueSized (now (props .entry)) (now (pool .entry)) (4 * cells) k ⌝ }
+{
+    let len = prop_word(props, k, 4);
+    if len % 4 != 0 {
+        return false;
+    }
+    if len / 4 != cells {
+        return false;
+    }
+    let offset = prop_word(props, k, 3);
+    if pool.len() < offset {
+        return false;
+    }
+    len <= pool.len() - offset
+}
+
+// The cell that is the value of a record's property `key`.
+pub fn cell_of(props: &[u32], pool: &[u8], node: usize, key: &[u8]) -> Cell
+    ensures { λ r. ⌜ r ≡ cellOf (now (props .entry)) (now (pool .entry)) node (now (key .entry)) ⌝ }
+{
+    let found = find_property(props, pool, node, key);
+    let Lookup::At(k) = found else {
+        return Cell::Not;
+    };
+    if has_cells(props, pool, 1, k) {
+        return Cell::Is(cell_at(pool, prop_word(props, k, 3)));
+    }
+    Cell::Not
+}
+
+// Whether a record has a property `key` with given bytes.
+pub fn has_value(props: &[u32], pool: &[u8], node: usize, key: &[u8], bytes: &[u8]) -> bool
+    ensures { λ r. ⌜ r ≡ hasValue (now (props .entry)) (now (pool .entry)) node (now (key .entry)) (now (bytes .entry)) ⌝ }
+{
+    let found = find_property(props, pool, node, key);
+    let Lookup::At(k) = found else {
+        return false;
+    };
+    value_is(props, pool, k, bytes)
+}
+
+// The MPIDR of the cells from `at` on: the lower cell alone, or the upper and the lower.
+fn cells_at(pool: &[u8], cells: usize, at: usize) -> u64
+    requires { ⌜ at + 4 * cells ≤ length (now pool) ⌝ }
+    ensures { λ r. ⌜ r ≡ cellsAt (now (pool .entry)) cells at ⌝ }
+{
+    let first = cell_at(pool, at) as u64;
+    if cells == 2 {
+        return first * 4294967296 + cell_at(pool, at + 4) as u64;
+    }
+    first
+}
+
+// An MPIDR with affinity bits alone.
+fn affine_only(mpidr: u64) -> Mpidr
+    ensures { λ r. ⌜ r ≡ affineOnly mpidr ⌝ }
+{
+    if is_affine(mpidr) {
+        return Mpidr::Is(mpidr);
+    }
+    Mpidr::Not
+}
+
+// A record's `reg` as an MPIDR, if it has four bytes for each address cell and affinity bits alone.
+pub fn mpidr_of(props: &[u32], pool: &[u8], cells: usize, node: usize) -> Mpidr
+    ensures { λ r. ⌜ r ≡ mpidrOf (now (props .entry)) (now (pool .entry)) cells node ⌝ }
+{
+    let found = find_property(props, pool, node, b"reg");
+    let Lookup::At(k) = found else {
+        return Mpidr::Not;
+    };
+    if has_cells(props, pool, cells, k) {
+        return affine_only(cells_at(pool, cells, prop_word(props, k, 3)));
+    }
+    Mpidr::Not
+}

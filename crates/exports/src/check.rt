@@ -1,0 +1,54 @@
+// Rules 1 to 8 and the lookup of a property, for tests.
+use crate::answer::ANSWER_WORDS;
+use crate::answer::no_hash;
+use crate::answer::put_answer;
+use tables::Lookup;
+ghost use mathlib.Core.Path.{_≡_};
+ghost use Rattle.tables.specs.Board.{board};
+ghost use Rattle.tables.specs.Property.{lookup};
+ghost use Rattle.tables.specs.Check.{tableFault};
+ghost use Rattle.exports.specs.Answer.{orShort, answered};
+ghost use Rattle.exports.specs.Tables.{checkWords, foundWord};
+
+// The first of rules 1 to 8 that is broken.
+#[no_mangle]
+pub extern "C" fn sunderwath_check_tables(
+    width: u32,
+    nodes: &[u32],
+    props: &[u32],
+    pool: &[u8],
+    answer: &mut [u32],
+) -> u32
+    ensures number { λ r.
+        ⌜ r ≡ orShort (now (answer .entry)) (tableFault (board width (now (nodes .entry)) (now (props .entry)) (now (pool .entry))) .number) ⌝ }
+    ensures answer { λ _.
+        ⌜ now (answer .exit)
+        ≡ answered (now (answer .entry)) (checkWords (board width (now (nodes .entry)) (now (props .entry)) (now (pool .entry)))) ⌝ }
+{
+    if answer.len() < ANSWER_WORDS {
+        return 49;
+    }
+    let fault = tables::table_fault(width, nodes, props, pool);
+    put_answer(answer, fault.number, fault.place as u32, 0, no_hash());
+    fault.number
+}
+
+// The record number of a node's property, or 0xFFFFFFFF.
+#[no_mangle]
+pub extern "C" fn sunderwath_find_property(
+    props: &[u32],
+    pool: &[u8],
+    node: u32,
+    name: &[u8],
+) -> u32
+    ensures { λ r. ⌜ r ≡ foundWord (lookup (now (props .entry)) (now (pool .entry)) node (now (name .entry))) ⌝ }
+{
+    let found = tables::find_property(props, pool, node as usize, name);
+    let Lookup::At(k) = found else {
+        return 0xFFFFFFFF;
+    };
+    if k < 0xFFFFFFFF {
+        return k as u32;
+    }
+    0xFFFFFFFF
+}

@@ -1,0 +1,5 @@
+// The calls for C. Each slice is a pointer and a count of elements; include/sunderwath.h says what a caller owes.
+mod answer;
+mod check;
+mod list;
+mod read;

@@ -1,0 +1,43 @@
+// The two calls on a list of MPIDRs.
+use crate::answer::ANSWER_WORDS;
+use crate::answer::no_hash;
+use crate::answer::put_answer;
+ghost use mathlib.Core.Path.{_≡_};
+ghost use Rattle.affinity.specs.List.{hashAnswer, slotAnswer};
+ghost use Rattle.exports.specs.Answer.{orShort, answered};
+ghost use Rattle.exports.specs.List.{hashWords, slotWords};
+
+// The hash of a list of MPIDRs.
+#[no_mangle]
+pub extern "C" fn sunderwath_list_hash(list: &[u64], answer: &mut [u32]) -> u32
+    ensures number { λ r. ⌜ r ≡ orShort (now (answer .entry)) (hashAnswer (now (list .entry)) .number) ⌝ }
+    ensures answer { λ _. ⌜ now (answer .exit) ≡ answered (now (answer .entry)) (hashWords (now (list .entry))) ⌝ }
+{
+    if answer.len() < ANSWER_WORDS {
+        return 49;
+    }
+    let found = affinity::list_hash(list);
+    let hash = found.hash;
+    put_answer(answer, found.number, found.place as u32, 0, hash);
+    found.number
+}
+
+// The slot of one MPIDR in a list of MPIDRs.
+#[no_mangle]
+pub extern "C" fn sunderwath_list_slot(mpidr: u64, list: &[u64], answer: &mut [u32]) -> u32
+    ensures number { λ r. ⌜ r ≡ orShort (now (answer .entry)) (slotAnswer mpidr (now (list .entry)) .number) ⌝ }
+    ensures answer { λ _. ⌜ now (answer .exit) ≡ answered (now (answer .entry)) (slotWords mpidr (now (list .entry))) ⌝ }
+{
+    if answer.len() < ANSWER_WORDS {
+        return 49;
+    }
+    let found = affinity::list_slot(mpidr, list);
+    put_answer(
+        answer,
+        found.number,
+        found.place as u32,
+        found.slot,
+        no_hash(),
+    );
+    found.number
+}

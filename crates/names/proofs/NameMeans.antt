@@ -1,0 +1,83 @@
+-- What the name reader answers, as facts about the name's bytes. Assumes nothing.
+use mathlib.Core.Path.{_≡_, refl, sym, ap, _∙_}
+use mathlib.Core.Logic.{_⊎_, inl, inr, ⊎-elim}
+use mathlib.Core.List.{List}
+use Prim.Native.Nat.{ℕ}
+use Rattle.names.specs.declared.TopologyName.{TopologyName}
+use Rattle.names.specs.declared.TopologyName.the-variants.{Socket, Cluster, Core, Thread, Other}
+use Rattle.names.specs.declared.Number.{Number}
+use Rattle.names.specs.declared.Number.the-variants.{Is, Not}
+use Rattle.names.specs.Kind.{Kind, word, Named}
+use Rattle.names.specs.Name.{answered, numberAfter, withNumber, nameOf}
+use Rattle.names.proofs.DecimalLaws.{not-is}
+use Rattle.names.proofs.WordLaws.{kindOf, name-is}
+use Rattle.names.proofs.AfterLaws.{after-named, named-name}
+
+-- an answer tells its kind and its number; Other tells no number
+abbrev kindIn : TopologyName → Kind
+kindIn (Socket n) = Kind.socket
+kindIn (Cluster n) = Kind.cluster
+kindIn (Core n) = Kind.core
+kindIn (Thread n) = Kind.thread
+kindIn Other = Kind.socket
+
+abbrev numberIn : TopologyName → Number
+numberIn (Socket n) = Is n
+numberIn (Cluster n) = Is n
+numberIn (Core n) = Is n
+numberIn (Thread n) = Is n
+numberIn Other = Not
+
+answered-in : (kind : Kind) (n : ℕ) → (kindIn (answered kind n) ≡ kind) × (numberIn (answered kind n) ≡ Is n)
+answered-in Kind.socket n = (refl, refl)
+answered-in Kind.cluster n = (refl, refl)
+answered-in Kind.core n = (refl, refl)
+answered-in Kind.thread n = (refl, refl)
+
+pub answered-same : (k j : Kind) (n m : ℕ) → answered k n ≡ answered j m → (k ≡ j) × (n ≡ m)
+answered-same k j n m h =
+    let e : Is n ≡ Is m = sym (answered-in k n .1) ∙ ap numberIn h ∙ answered-in j m .1 in
+    (sym (answered-in k n .0) ∙ ap kindIn h ∙ answered-in j m .0, cc)
+
+pub answered-other : (kind : Kind) (n : ℕ) → answered kind n ≡ Other → ⊥
+answered-other kind n h = not-is (sym (ap numberIn h) ∙ answered-in kind n .1)
+
+-- Other, or a kind and a number that the name gives
+abbrev Reads : List ℕ → Type 0
+Reads name = (nameOf name ≡ Other) ⊎ ((kind : Kind) × (n : ℕ) × (nameOf name ≡ answered kind n) × Named name kind n)
+
+reads : (name : List ℕ) → Reads name
+reads name = go (numberAfter (word (kindOf name)) name) refl
+  where
+    answer : nameOf name ≡ withNumber (kindOf name) (numberAfter (word (kindOf name)) name)
+    answer = name-is name (kindOf name) refl
+
+    go : (x : Number) → numberAfter (word (kindOf name)) name ≡ x → Reads name
+    go (Is n) e = inr (kindOf name, n, answer ∙ ap (withNumber (kindOf name)) e, after-named name (kindOf name) n e)
+    go Not e = inl (answer ∙ ap (withNumber (kindOf name)) e)
+
+name-named : (name : List ℕ) (kind : Kind) (n : ℕ) → nameOf name ≡ answered kind n → Named name kind n
+name-named name kind n h = ⊎-elim (λ o. absurd (answered-other kind n (sym h ∙ o))) found (reads name)
+  where
+    found : (j : Kind) × (m : ℕ) × (nameOf name ≡ answered j m) × Named name j m → Named name kind n
+    found t = let s = answered-same (t .0) kind (t .1) n (sym (t .2) ∙ h) in rw (s .0, s .1) at (t .3)
+
+pub name-means :
+    (name : List ℕ) (kind : Kind) (n : ℕ) →
+    (nameOf name ≡ answered kind n → Named name kind n) × (Named name kind n → nameOf name ≡ answered kind n)
+name-means name kind n = (name-named name kind n, named-name)
+
+pub other-means :
+    (name : List ℕ) →
+    (nameOf name ≡ Other → (kind : Kind) (n : ℕ) → Named name kind n → ⊥) × (((kind : Kind) (n : ℕ) → Named name kind n → ⊥) → nameOf name ≡ Other)
+other-means name = (
+  λ o kind n p. answered-other kind n (sym (named-name p) ∙ o),
+  λ h. ⊎-elim (λ o. o) (λ t. absurd (h (t .0) (t .1) (t .3))) (reads name),
+)
+
+-- a name gives one kind and one number
+pub named-unique : {name : List ℕ} {k j : Kind} {n m : ℕ} → Named name k n → Named name j m → (k ≡ j) × (n ≡ m)
+named-unique {name} {k} {j} {n} {m} p q = answered-same k j n m (sym (named-name p) ∙ named-name q)
+
+pub name-cases : (name : List ℕ) → (nameOf name ≡ Other) ⊎ ((kind : Kind) × (n : ℕ) × (nameOf name ≡ answered kind n))
+name-cases name = ⊎-elim inl (λ t. inr (t .0, t .1, t .2)) (reads name)

@@ -1,0 +1,3 @@
+-- What the contracts of `names` cite.
+pub mod Kind
+pub mod Name

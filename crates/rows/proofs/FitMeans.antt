@@ -1,0 +1,66 @@
+-- The rows written fit the map. Assumes nothing.
+use mathlib.Core.Path.{_≡_, refl, ap}
+use Prim.Native.Nat.{ℕ, _/_, _%_, _^_, _<_}
+use native.Mathlib.Omega.{arith}
+use Rattle.affinity.specs.Hash.{slotIn}
+use Rattle.tables.specs.Board.{Board, Typed, nodeCount}
+use Rattle.tables.specs.Rules.{WellFormed}
+use Rattle.tables.proofs.WellFormedLaws.{wf-nodes}
+use Rattle.cpus.specs.Node.{Reg, mpidr}
+use Rattle.cpus.specs.Rules.{SoundCpus}
+use Rattle.cpus.specs.Check.{mpidrAt}
+use Rattle.cpus.proofs.PairMeans.{mpidr-parts}
+use Rattle.cpus.proofs.RegMeans.{reg-bounds}
+use Rattle.cpus.proofs.CpuGives.{cpu-reg}
+use Rattle.topology.specs.Map.{Map, Leaf, Names}
+use Rattle.topology.specs.Rules.{MapRule}
+use Rattle.topology.specs.Scan.{leafList}
+use Rattle.topology.proofs.CheckLeaf.{leaf-in-map, in-map-inside}
+use Rattle.rows.specs.Row.{rowOf, rowWords}
+use Rattle.rows.specs.Write.{rowsBelow}
+use Rattle.rows.specs.Fits.{rowAt, RowFits, Fits}
+use Rattle.rows.proofs.WordMeans.{socket-word, cluster-word, core-word, thread-word}
+use Rattle.rows.proofs.RowLaws.{row-path, rows-length, row-at}
+use Rattle.rows.proofs.SourceMeans.{theTree, theMpidrs, theSource, leafCount, leafAt, cpuIn, leafRow, LeafFacts, mpidrs-of, row-number}
+
+module _ {b : Board} (typed : Typed b) (well : WellFormed b) (sound : SoundCpus b) {m : ℕ} (the-map : Map b m) (kept : (n p : ℕ) → MapRule b n p → ⊥) where
+  -- a record's number fits a word
+  small : (i : ℕ) → i < nodeCount (b .nodes) → i % 2 ^ 32 ≡ i
+  small i lt = omega (arith, wf-nodes well .1)
+
+  -- the row of a leaf
+  row-fits : (leaf cpu : ℕ) → Leaf b leaf → Names b leaf cpu → RowFits b leaf (rowWords (leafRow b leaf cpu))
+  unfolding rowWords rowOf
+  row-fits leaf cpu l n =
+      record {
+        size = refl;
+        leaf-word = small leaf (in-map-inside (leaf-in-map l));
+        cpu = rw cpu-word n;
+        reg = rw cpu-word reg;
+        socket = socket-word well sound l;
+        cluster = λ d lt. rw (row-path (leafRow b leaf cpu) d lt) (cluster-word well sound l d lt);
+        core = core-word well sound the-map kept l;
+        thread = thread-word well sound l;
+        slot = record { list = theMpidrs b; mpidrs = mpidrs-of typed well sound; slot = ap (slotIn (theMpidrs b)) whole };
+      }
+    where
+      cpu-word : cpu % 2 ^ 32 ≡ cpu
+      cpu-word = small cpu (n .is-cpu .child .inside)
+
+      reg : Reg b cpu (mpidrAt b cpu / 2 ^ 32) (mpidrAt b cpu % 2 ^ 32)
+      reg =
+          let t = cpu-reg typed well sound (n .is-cpu) in
+          let r = reg-bounds (t .2) in
+          let p = mpidr-parts (t .0) (t .1) (r .0) (r .1) in
+          rw (t .3, p .0, p .1) (t .2)
+
+      whole : mpidrAt b cpu ≡ mpidr (mpidrAt b cpu / 2 ^ 32) (mpidrAt b cpu % 2 ^ 32)
+      whole = omega arith
+
+  pub rows-fit : LeafFacts b → Fits b (rowsBelow (theSource b) (leafCount b))
+  rows-fit leaves = record { leaves = leafList (theTree b); listing = leaves .listing; size = rows-length (theSource b) (leafCount b); each = each }
+    where
+      each : (k : ℕ) → k < leafCount b → RowFits b (leafAt b k) (rowAt (rowsBelow (theSource b) (leafCount b)) k)
+      each k lt =
+          let leaf = leaves .listing .only k lt in
+          rw (row-at (theSource b) (leafCount b) k lt, row-number typed well sound leaves k lt) (row-fits (leafAt b k) (cpuIn b (leafAt b k)) leaf (leaves .names (leafAt b k) leaf))

@@ -1,0 +1,10 @@
+-- What the rows hold, as facts: rows that fit a map are unique, and the rows written fit.
+pub mod ShapeLaws
+pub mod WordMeans
+pub mod FitUnique
+pub mod RowLaws
+pub mod TurnLaws
+pub mod WrittenLaws
+pub mod SourceMeans
+pub mod FitMeans
+pub mod SlotMeans

@@ -1,0 +1,128 @@
+-- What the rows of an accepted board are made of, and each row of them. Assumes nothing.
+use mathlib.Core.Path.{_≡_, sym, _∙_}
+use mathlib.Core.List.{List, map}
+use Prim.Native.Nat.{ℕ, _≤_, _<_}
+use native.Mathlib.Omega.{arith}
+use lib.ListN.{length, getD, length-map}
+use Rattle.laws.specs.Listing.{Listing}
+use Rattle.laws.specs.Pad.{padded}
+use Rattle.laws.proofs.IndexLaws.{getD-map-lt}
+use Rattle.laws.proofs.PadLaws.{pad-at}
+use Rattle.laws.proofs.PadMapLaws.{pad-map}
+use Rattle.affinity.specs.Mask.{maskOf}
+use Rattle.affinity.specs.Hash.{slotIn}
+use Rattle.tables.specs.Board.{Board, Typed}
+use Rattle.tables.specs.Rules.{WellFormed}
+use Rattle.cpus.specs.Rules.{CpuRule, SoundCpus}
+use Rattle.cpus.specs.Check.{cpuCount, cpuList, mpidrAt, cpusOf}
+use Rattle.cpus.proofs.CpuMeans.{cpu-listing, cpu-count}
+use Rattle.cpus.proofs.CpuGives.{count-range, cpu-reg}
+use Rattle.topology.specs.Map.{Map, Leaf, Names}
+use Rattle.topology.specs.Find.{mapOf}
+use Rattle.topology.specs.Rules.{MapRule}
+use Rattle.topology.specs.Scan.{Tree, cpuOf, leafList, leavesOf}
+use Rattle.topology.proofs.MapMeans.{map-of, map-found}
+use Rattle.topology.proofs.PhandleMeans.{cpuAt}
+use Rattle.topology.proofs.CheckLeaf.{treeAt}
+use Rattle.topology.proofs.TreeGives.{leaf-listing, leaf-names, leaf-cpu, leaves-apart, same-count}
+use Rattle.rows.specs.declared.Row.{Row}
+use Rattle.rows.specs.Row.{rowOf}
+use Rattle.rows.specs.Write.{Source, rowNumber}
+use Rattle.rows.specs.Fits.{Mpidrs}
+
+-- the tables with the map's record and the cpu records' phandles
+abbrev pub theTree : Board → Tree
+theTree b = treeAt b (mapOf (b .nodes) (b .pool))
+
+-- the MPIDRs of the cpu records
+abbrev pub theMpidrs : Board → List ℕ
+theMpidrs b = map (mpidrAt b) (cpuList b)
+
+abbrev pub theSource : Board → Source
+theSource b = record { nodes = b .nodes; pool = b .pool; cpus = cpusOf b; leaves = leavesOf (theTree b); mask = maskOf (theMpidrs b) }
+
+-- the number of rows; the leaf and the cpu record of row k
+abbrev pub leafCount : Board → ℕ
+leafCount b = length (leafList (theTree b))
+
+abbrev pub leafAt : Board → ℕ → ℕ
+leafAt b k = getD (leafList (theTree b)) k 0
+
+abbrev pub cpuIn : Board → ℕ → ℕ
+cpuIn b leaf = cpuAt b (cpuOf (theTree b) leaf)
+
+-- the row of a leaf that names a cpu record
+abbrev pub leafRow : Board → ℕ → ℕ → Row
+leafRow b leaf cpu = rowOf (b .nodes) (b .pool) leaf cpu (mpidrAt b cpu) (slotIn (theMpidrs b) (mpidrAt b cpu))
+
+-- the leaves listed: each names a cpu record, no two the same, and there are as many as cpu records
+pub record LeafFacts (b : Board) : Type 0 where
+  pub listing : Listing (Leaf b) (leafList (theTree b))
+  pub index : (leaf : ℕ) → Leaf b leaf → cpuOf (theTree b) leaf < length (cpuList b)
+  pub names : (leaf : ℕ) → Leaf b leaf → Names b leaf (cpuIn b leaf)
+  pub apart : (i j c : ℕ) → Leaf b i → Leaf b j → Names b i c → Names b j c → i ≡ j
+  pub count : leafCount b ≡ length (cpuList b)
+
+-- of an accepted map they hold
+module _
+    {b : Board}
+    (typed : Typed b)
+    (well : WellFormed b)
+    (sound : SoundCpus b)
+    (no17 : (p : ℕ) → CpuRule b 17 p → ⊥)
+    {m : ℕ}
+    (the-map : Map b m)
+    (kept : (n p : ℕ) → MapRule b n p → ⊥)
+  where
+    pub leaf-facts : LeafFacts b
+    leaf-facts =
+        record {
+          listing = leaf-listing typed well sound no17 found later;
+          index = leaf-cpu typed well sound no17 found later;
+          names = leaf-names typed well sound no17 found later;
+          apart = leaves-apart typed well sound no17 found later;
+          count = same-count typed well sound no17 found later;
+        }
+      where
+        found : Map b (mapOf (b .nodes) (b .pool))
+        found = map-of b well (map-found b well m the-map)
+
+        later : (n p : ℕ) → MapRule b n p → 18 ≤ n → ⊥
+        later n p r _ = kept n p r
+
+    -- one row for each cpu record
+    pub leaf-count : leafCount b ≡ cpuCount b
+    leaf-count = leaf-facts .count ∙ sym (cpu-count b)
+
+module _ {b : Board} (typed : Typed b) (well : WellFormed b) (sound : SoundCpus b) where
+  pub mpidrs-of : Mpidrs b (theMpidrs b)
+  mpidrs-of =
+      record {
+        cpus = cpuList b;
+        listing = cpu-listing well;
+        size = length-map (cpuList b) (mpidrAt b);
+        each = λ k lt. let t = cpu-reg typed well sound (cpu-listing well .only k lt) in (t .0, t .1, t .2, getD-map-lt (mpidrAt b) (cpuList b) k lt ∙ t .3);
+      }
+
+  few : length (cpuList b) ≤ 256
+  few = omega (arith, count-range typed well sound .1, cpu-count b)
+
+  -- row k is that of leaf k and of the cpu record that it names
+  pub row-number : LeafFacts b → (k : ℕ) → k < leafCount b → rowNumber (theSource b) k ≡ leafRow b (leafAt b k) (cpuIn b (leafAt b k))
+  unfolding rowNumber leavesOf cpusOf
+  row-number leaves k lt = rw (leaf, index, cpu, number)
+    where
+      in-cpus : cpuOf (theTree b) (leafAt b k) < length (cpuList b)
+      in-cpus = leaves .index (leafAt b k) (leaves .listing .only k lt)
+
+      leaf : getD (padded 256 (leafList (theTree b))) k 0 ≡ leafAt b k
+      leaf = pad-at 256 (leafList (theTree b)) k lt (omega (arith, few, leaves .count))
+
+      index : getD (padded 256 (map (cpuOf (theTree b)) (leafList (theTree b)))) k 0 ≡ cpuOf (theTree b) (leafAt b k)
+      index = pad-map 256 (cpuOf (theTree b)) (leafList (theTree b)) k lt (omega (arith, few, leaves .count))
+
+      cpu : getD (padded 256 (cpuList b)) (cpuOf (theTree b) (leafAt b k)) 0 ≡ cpuIn b (leafAt b k)
+      cpu = pad-at 256 (cpuList b) (cpuOf (theTree b) (leafAt b k)) in-cpus few
+
+      number : getD (padded 256 (theMpidrs b)) (cpuOf (theTree b) (leafAt b k)) 0 ≡ mpidrAt b (cpuIn b (leafAt b k))
+      number = pad-map 256 (mpidrAt b) (cpuList b) (cpuOf (theTree b) (leafAt b k)) in-cpus few

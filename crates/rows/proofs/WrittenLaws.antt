@@ -1,0 +1,36 @@
+-- The buffer after the writing, where it has room: the rows, and behind them what it held. Assumes nothing.
+use mathlib.Core.Path.{_≡_}
+use mathlib.Core.List.{List, _++_}
+use Prim.Native.Nat.{ℕ, _+_, _*_, _≤_, _<_}
+use native.Mathlib.Omega.{arith}
+use lib.ListN.{length, getD, take, drop, length-append, length-drop, List·getD-append}
+use lib.Seq.{take-at, drop-at}
+use borrow.Author.Tests.{le-leb}
+use Rattle.rows.specs.Fits.{rowSize}
+use Rattle.rows.specs.Write.{Source, rowsBelow, written}
+use Rattle.rows.proofs.RowLaws.{rows-length}
+
+module _ (s : Source) (before : List ℕ) (room : rowSize * s .leaves .count ≤ length before) where
+  abbrev words : ℕ
+  words = rowSize * s .leaves .count
+
+  abbrev rows : List ℕ
+  rows = rowsBelow s (s .leaves .count)
+
+  pub written-is : written s before ≡ rows ++ drop words before
+  unfolding written
+  written-is = rw (le-leb words (length before) room)
+
+  pub written-front : take words (written s before) ≡ rows
+  written-front = rw written-is (take-at rows (drop words before) words (rows-length s (s .leaves .count)))
+
+  pub written-rest : drop words (written s before) ≡ drop words before
+  written-rest = rw written-is (drop-at rows (drop words before) words (rows-length s (s .leaves .count)))
+
+  pub written-length : length (written s before) ≡ length before
+  written-length =
+      rw (written-is, length-append rows (drop words before), rows-length s (s .leaves .count), length-drop words before) (omega arith)
+
+  pub written-at : (i : ℕ) → i < words → getD (written s before) i 0 ≡ getD rows i 0
+  written-at i lt =
+      let size = rows-length s (s .leaves .count) in rw written-is (List·getD-append rows (drop words before) 0 i (omega arith))

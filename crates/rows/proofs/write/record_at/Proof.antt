@@ -1,0 +1,27 @@
+-- Past the end the element is 0. Assumes nothing.
+use mathlib.Core.Path.{sym}
+use lib.ListN.{List·getD-eq-default}
+use borrow.Author.Needs.{needs}
+use Rattle.rows.proofs.write.record_at.Statement.{statement}
+use Rattle.rows.proofs.write.record_at.Tie as tie
+use Rattle.rows.proofs.write.record_at.Reads as reads
+use Rattle.rows.proofs.write.record_at.Lts as lts
+
+-- src/write.rt:42:16
+mul-result : tie.Need-mul-result
+mul-result c = search needs
+
+-- src/write.rt:42:16
+shared-slice-read-result : tie.Need-shared-slice-read-result
+shared-slice-read-result c = search needs
+
+-- src/write.rt:42:9
+returns : tie.Need-returns
+returns c = search needs
+
+-- src/write.rt:38:1
+returns-2 : tie.Need-returns-2
+returns-2 c = sym (List·getD-eq-default (c .before .args .list .now) 0 (c .if1 .left))
+
+pub record-at-spec : {M : Type 1} → statement M
+record-at-spec = tie.close (tie.spec mul-result shared-slice-read-result returns returns-2)

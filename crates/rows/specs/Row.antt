@@ -1,0 +1,47 @@
+-- The row of a leaf, as the writer makes it.
+use mathlib.Core.List.{List, [], _∷_}
+use Prim.Native.Nat.{ℕ, _/_, _%_, _^_}
+use lib.ListN.{getD}
+use Rattle.names.specs.declared.TopologyName.{TopologyName}
+use Rattle.names.specs.declared.TopologyName.the-variants.{Socket, Cluster, Core, Thread, Other}
+use Rattle.tables.specs.Board.{parentWord}
+use Rattle.topology.specs.declared.ClusterPath.{ClusterPath}
+use Rattle.topology.specs.Path.{gap, topologyName, clusterPath, socketNumber}
+use Rattle.topology.specs.Check.{topologyNumber}
+use Rattle.rows.specs.declared.Row.{Row}
+
+-- the core's number: the leaf's own, or for a thread its parent's
+abbrev pub coreOf : TopologyName → TopologyName → ℕ
+coreOf (Socket n) parent = gap
+coreOf (Cluster n) parent = gap
+coreOf (Core n) parent = n
+coreOf (Thread n) parent = topologyNumber parent
+coreOf Other parent = gap
+
+abbrev pub threadOf : TopologyName → ℕ
+threadOf (Socket n) = gap
+threadOf (Cluster n) = gap
+threadOf (Core n) = gap
+threadOf (Thread n) = n
+threadOf Other = gap
+
+-- the row of leaf record i, which names a cpu record with an MPIDR and a slot; a word holds the low 32 bits of a record number
+unfoldable pub rowOf : List ℕ → List ℕ → ℕ → ℕ → ℕ → ℕ → Row
+rowOf nodes pool i cpu m slot =
+    record {
+      leaf = i % 2 ^ 32;
+      cpu = cpu % 2 ^ 32;
+      upper = m / 2 ^ 32;
+      lower = m % 2 ^ 32;
+      socket = socketNumber nodes pool i;
+      path = clusterPath nodes pool i .numbers;
+      core = coreOf (topologyName nodes pool i) (topologyName nodes pool (parentWord nodes i));
+      thread = threadOf (topologyName nodes pool i);
+      slot = slot;
+    }
+
+-- a row's words, in order
+unfoldable pub rowWords : Row → List ℕ
+rowWords r =
+    r .leaf ∷ r .cpu ∷ r .upper ∷ r .lower ∷ r .socket ∷ getD (r .path) 0 0 ∷ getD (r .path) 1 0 ∷ getD (r .path) 2 0 ∷ getD (r .path) 3 0
+    ∷ r .core ∷ r .thread ∷ r .slot ∷ []

@@ -1,0 +1,58 @@
+-- Ancestors by the parent, and the depth-first rule. Assumes nothing.
+use mathlib.Core.Path.{_≡_, refl, sym, ap, _∙_}
+use mathlib.Core.Bool.{Bool, true, false, cond}
+use mathlib.Core.List.{List}
+use Prim.Native.Nat.{ℕ, zero, suc, _+_, _-_, _*_, _≤_, _<_}
+use native.Mathlib.Omega.{arith}
+use lib.Dec.{eqb}
+use lib.ListN.{getD}
+use borrow.Author.Tests.{ne-eqb, eqb-true, eqb-false}
+use Rattle.tables.specs.declared.Parent.the-variants.{Is}
+use Rattle.tables.specs.Limits.{noParent}
+use Rattle.tables.specs.Board.{parentWord}
+use Rattle.tables.specs.Tree.{parentOf, isBelow, Ancestor}
+use Rattle.tables.specs.Check.{soundParent}
+use Rattle.tables.proofs.CodePool.{word-zero}
+use Rattle.tables.proofs.TreeLaws.{parent-is, below-ancestor, below-here, below-parent}
+
+module _ (nodes : List ℕ) where
+  -- an ancestor's number is smaller
+  pub ancestor-less : {a i : ℕ} → Ancestor nodes a i → a < i
+  ancestor-less (Ancestor.parent h) = h .earlier
+  ancestor-less (Ancestor.above h t) = omega (arith, ancestor-less t, h .earlier)
+
+  -- the search goes on at a parent other than a
+  pub below-on : (a i p : ℕ) → parentOf nodes i ≡ Is p → (p ≡ a → ⊥) → isBelow nodes p a ≡ isBelow nodes i a
+  below-on a i p h ne =
+      let at = parent-is nodes i p h in
+      ap (λ (q : ℕ). isBelow nodes q a) (sym (at .1)) ∙ below-parent nodes a i (at .0) (ne-eqb _ _ (λ e. ne (sym (at .1) ∙ e)))
+
+  -- a record is below no later one ..
+  not-below : (a i : ℕ) → i ≤ a → isBelow nodes i a ≡ false
+  not-below a i le = go (isBelow nodes i a) refl
+    where
+      go : (t : Bool) → isBelow nodes i a ≡ t → isBelow nodes i a ≡ false
+      go true e = absurd (omega (arith, ancestor-less (below-ancestor nodes a i e)))
+      go false e = e
+
+  -- .. so the search ends at a parent that is not after a
+  pub below-end : (a i p : ℕ) → parentOf nodes i ≡ Is p → p ≤ a → eqb p a ≡ isBelow nodes i a
+  below-end a i p h le = go (eqb p a) refl
+    where
+      go : (t : Bool) → eqb p a ≡ t → t ≡ isBelow nodes i a
+      go true e = let at = parent-is nodes i p h in below-here nodes a i (at .0) (at .1 ∙ eqb-true p a e)
+      go false e = sym (not-below a p le) ∙ below-on a i p h (eqb-false _ _ e)
+
+  -- the depth-first rule of the first record and of a later one, whose parent word is w
+  pub sound-first : (i w : ℕ) → i ≡ 0 → w ≡ getD nodes (3 * i + 0) 0 → eqb w noParent ≡ soundParent nodes i
+  unfolding soundParent
+  sound-first zero w z e = ap (λ (x : ℕ). eqb x noParent) e
+  sound-first (suc i) w z e = absurd (omega arith)
+
+  pub sound-later : (i w : ℕ) → (i ≡ 0 → ⊥) → w ≡ getD nodes (3 * i + 0) 0 → cond (eqb w (i - 1)) true (isBelow nodes (i - 1) w) ≡ soundParent nodes i
+  unfolding soundParent
+  sound-later zero w ne e = absurd (ne refl)
+  sound-later (suc i) w ne e =
+      let before : suc i - 1 ≡ i = omega arith in
+      let word : w ≡ parentWord nodes (suc i) = e ∙ word-zero nodes (3 * suc i) in
+      rw before (ap (λ (x : ℕ). cond (eqb x i) true (isBelow nodes i x)) word)

@@ -1,0 +1,126 @@
+-- What the lookup of a property answers. Assumes nothing.
+use mathlib.Core.Path.{_≡_, refl, sym, ap, _∙_}
+use mathlib.Core.Bool.{Bool, true, false, cond}
+use mathlib.Core.Logic.{_⊎_, inl, inr, ⊎-elim}
+use mathlib.Core.List.{List}
+use Prim.Native.Nat.{ℕ, _+_, _<_}
+use native.Mathlib.Omega.{arith}
+use lib.Dec.{ltb, leb, eqb}
+use lib.ListN.{length}
+use borrow.Author.Tests.{le-leb, leb-true, eq-eqb, eqb-true, ltb-true, ltb-false}
+use Rattle.laws.specs.Search.{lowest}
+use Rattle.laws.proofs.SearchLaws.{true-false, lowest-below, lowest-passes}
+use Rattle.laws.proofs.FirstLaws.{compared}
+use Rattle.laws.proofs.SameLaws.{same-refl, same-equal}
+use Rattle.laws.proofs.TestLaws.{both-true}
+use Rattle.tables.specs.declared.Lookup.{Lookup}
+use Rattle.tables.specs.declared.Lookup.the-variants.{At, Missing}
+use Rattle.tables.specs.Board.{Board, Inside, range, rangeIs, propCount, propNode, propValue, keyOffset, keyLength}
+use Rattle.tables.specs.Property.{Property, HasValue, isProperty, lookup}
+use Rattle.tables.specs.Rules.{TableRule}
+
+-- the test of a range of the pool
+module _ (pool : List ℕ) (offset len : ℕ) (bytes : List ℕ) where
+  pub range-is-true : rangeIs pool offset len bytes ≡ true → (Inside pool offset len) × (range pool offset len ≡ bytes)
+  unfolding rangeIs
+  range-is-true h =
+      let t = both-true (leb (offset + len) (length pool)) h in
+      (leb-true (offset + len) (length pool) (t .0), same-equal (range pool offset len) bytes (t .1))
+
+  pub true-range-is : Inside pool offset len → range pool offset len ≡ bytes → rangeIs pool offset len bytes ≡ true
+  unfolding rangeIs
+  true-range-is h e = rw (le-leb (offset + len) (length pool) h, e) (same-refl bytes)
+
+  pub range-is-false : rangeIs pool offset len bytes ≡ false → Inside pool offset len → range pool offset len ≡ bytes → ⊥
+  range-is-false f h e = true-false (true-range-is h e) f
+
+-- record k is the lowest property of record i with the name `key`
+pub record LowestProperty (b : Board) (i : ℕ) (key : List ℕ) (k : ℕ) : Type 0 where
+  pub property : Property b i key k
+  pub no-lower : (j : ℕ) → j < k → Property b i key j → ⊥
+
+module _ (b : Board) (i : ℕ) (key : List ℕ) where
+  -- the test of a property record
+  pub is-property-true : (k : ℕ) → isProperty (b .props) (b .pool) i key k ≡ true → k < propCount (b .props) → Property b i key k
+  unfolding isProperty
+  is-property-true k h lt =
+      let t = both-true (eqb (propNode (b .props) k) i) h in
+      let r = range-is-true (b .pool) (keyOffset (b .props) k) (keyLength (b .props) k) key (t .1) in
+      record { inside = lt; node = eqb-true (propNode (b .props) k) i (t .0); range = r .0; name = r .1 }
+
+  pub true-is-property : (k : ℕ) → Property b i key k → isProperty (b .props) (b .pool) i key k ≡ true
+  unfolding isProperty
+  true-is-property k h =
+      rw (eq-eqb (propNode (b .props) k) i (h .node)) (true-range-is (b .pool) (keyOffset (b .props) k) (keyLength (b .props) k) key (h .range) (h .name))
+
+  abbrev test : ℕ → Bool
+  test = isProperty (b .props) (b .pool) i key
+
+  abbrev count : ℕ
+  count = propCount (b .props)
+
+  abbrev found : ℕ
+  found = lowest test count
+
+  -- what each answer of the lookup shows, on any tables: the lowest record that matches ..
+  pub lookup-at : (k : ℕ) → lookup (b .props) (b .pool) i key ≡ At k → LowestProperty b i key k
+  unfolding lookup
+  lookup-at k = go (ltb found count) refl
+    where
+      at-found : ltb found count ≡ true → LowestProperty b i key found
+      at-found e =
+          record {
+            property = is-property-true found (lowest-passes test count (ltb-true _ _ e)) (ltb-true _ _ e);
+            no-lower = λ j lt h. true-false (true-is-property j h) (lowest-below test count j lt);
+          }
+
+      go : (t : Bool) → ltb found count ≡ t → cond t (At found) Missing ≡ At k → LowestProperty b i key k
+      go true e g = let q : found ≡ k = cc in rw q at (at-found e)
+      go false e g = let z : _≡_ {A = ℕ} 0 1 = cc in absurd (omega arith)
+
+  -- .. or that none does
+  pub lookup-missing : lookup (b .props) (b .pool) i key ≡ Missing → (k : ℕ) → Property b i key k → ⊥
+  unfolding lookup
+  lookup-missing = go (ltb found count) refl
+    where
+      go : (t : Bool) → ltb found count ≡ t → cond t (At found) Missing ≡ Missing → (k : ℕ) → Property b i key k → ⊥
+      go true e g = let z : _≡_ {A = ℕ} 0 1 = cc in absurd (omega arith)
+      go false e g = λ k h. true-false (true-is-property k h) (lowest-below test count k (omega (arith, h .inside, ltb-false found count e)))
+
+  abbrev pub Answers : Lookup → Type 0
+  Answers l = ((k : ℕ) × (l ≡ At k) × LowestProperty b i key k) ⊎ ((l ≡ Missing) × ((k : ℕ) → Property b i key k → ⊥))
+
+  pub lookup-cases : Answers (lookup (b .props) (b .pool) i key)
+  lookup-cases = go (lookup (b .props) (b .pool) i key) refl
+    where
+      go : (l : Lookup) → lookup (b .props) (b .pool) i key ≡ l → Answers (lookup (b .props) (b .pool) i key)
+      go (At k) e = inl (k, e, lookup-at k e)
+      go Missing e = inr (e, lookup-missing e)
+
+  -- .. and the other way: the answer is the lowest match, or Missing where there is none
+  pub at-lookup : (k : ℕ) → LowestProperty b i key k → lookup (b .props) (b .pool) i key ≡ At k
+  at-lookup k h = ⊎-elim (λ t. rw (same (t .0) (t .2)) at (t .1)) (λ t. absurd (t .1 k (h .property))) lookup-cases
+    where
+      same : (j : ℕ) → LowestProperty b i key j → j ≡ k
+      same j g =
+          ⊎-elim
+          (λ lt. absurd (h .no-lower j lt (g .property)))
+          (⊎-elim (λ e. e) (λ lt. absurd (g .no-lower k lt (h .property))))
+          (compared j k)
+
+  pub missing-lookup : ((k : ℕ) → Property b i key k → ⊥) → lookup (b .props) (b .pool) i key ≡ Missing
+  missing-lookup none = ⊎-elim (λ t. absurd (none (t .0) (t .2 .property))) (λ t. t .0) lookup-cases
+
+  -- where rule 8 is not broken, a record has at most one property of a name, and the lookup finds it
+  module _ (no-repeat : (k : ℕ) → TableRule b 8 k → ⊥) where
+    not-before : {j k : ℕ} → Property b i key j → Property b i key k → j < k → ⊥
+    not-before {j} {k} g h lt = no-repeat k (TableRule.repeatedProperty j k lt (h .inside) (g .node ∙ sym (h .node)) (g .name ∙ sym (h .name)))
+
+    pub property-unique : {j k : ℕ} → Property b i key j → Property b i key k → j ≡ k
+    property-unique {j} {k} g h = ⊎-elim (λ lt. absurd (not-before g h lt)) (⊎-elim (λ e. e) (λ lt. absurd (not-before h g lt))) (compared j k)
+
+    pub lookup-of : {k : ℕ} → Property b i key k → lookup (b .props) (b .pool) i key ≡ At k
+    lookup-of {k} h = at-lookup k (record { property = h; no-lower = λ j lt g. not-before g h lt })
+
+    pub value-unique : {v w : List ℕ} → HasValue b i key v → HasValue b i key w → v ≡ w
+    value-unique g h = sym (g .bytes) ∙ ap (propValue b) (property-unique (g .property) (h .property)) ∙ h .bytes

@@ -1,0 +1,45 @@
+// The records of a node table: parents, ancestors, names.
+use crate::Parent;
+use crate::pool::range_is;
+use crate::words::node_word;
+use crate::words::wide;
+ghost use mathlib.Core.Path.{_≡_};
+ghost use Rattle.tables.specs.Board.{nameOffset, nameLength, rangeIs};
+ghost use Rattle.tables.specs.Tree.{parentOf, isBelow};
+
+// The parent of record i. A record outside the table has none, nor has one whose parent word is not below its number.
+pub fn parent_of(nodes: &[u32], i: usize) -> Parent
+    ensures { λ r. ⌜ r ≡ parentOf (now (nodes .entry)) i ⌝ }
+{
+    if nodes.len() / 3 <= i {
+        return Parent::Top;
+    }
+    let word = wide(nodes[3 * i]);
+    if i <= word {
+        return Parent::Top;
+    }
+    Parent::Is(word)
+}
+
+// Whether record a is an ancestor of record i. Ancestors have smaller numbers: at a parent not above a the search ends.
+pub fn is_below(nodes: &[u32], i: usize, a: usize) -> bool
+    ensures { λ r. ⌜ r ≡ isBelow (now (nodes .entry)) i a ⌝ }
+{
+    let parent = parent_of(nodes, i);
+    let Parent::Is(p) = parent else {
+        return false;
+    };
+    if p <= a {
+        return p == a;
+    }
+    is_below(nodes, p, a)
+}
+
+// Whether the name of record i is the given one.
+pub fn name_is(nodes: &[u32], pool: &[u8], i: usize, bytes: &[u8]) -> bool
+    ensures { λ r.
+        let table = now (nodes .entry) in
+        ⌜ r ≡ rangeIs (now (pool .entry)) (nameOffset table i) (nameLength table i) (now (bytes .entry)) ⌝ }
+{
+    range_is(pool, node_word(nodes, i, 1), node_word(nodes, i, 2), bytes)
+}

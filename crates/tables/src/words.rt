@@ -1,0 +1,52 @@
+// The words of the node and property records.
+ghost use mathlib.Core.Path.{_≡_};
+ghost use Prim.Native.Nat.{_+_, _*_};
+ghost use lib.ListN.{getD};
+ghost use Rattle.tables.specs.Board.{nodeCount};
+
+// How many node records there are.
+pub fn node_count(nodes: &[u32]) -> usize
+    ensures { λ r. ⌜ r ≡ nodeCount (now (nodes .entry)) ⌝ }
+{
+    nodes.len() / 3
+}
+
+// A word as an index.
+pub fn wide(word: u32) -> usize
+    ensures { λ r. ⌜ r ≡ word ⌝ }
+{
+    word as usize
+}
+
+// The word `field` places after `start`, 0 outside the table.
+fn word_after(words: &[u32], start: usize, field: usize) -> usize
+    ensures { λ r. ⌜ r ≡ getD (now (words .entry)) (start + field) 0 ⌝ }
+{
+    if words.len() <= start {
+        return 0;
+    }
+    if words.len() - start <= field {
+        return 0;
+    }
+    wide(words[start + field])
+}
+
+// A word of node record i, 0 outside the table.
+pub fn node_word(nodes: &[u32], i: usize, field: usize) -> usize
+    ensures { λ r. ⌜ r ≡ getD (now (nodes .entry)) (3 * i + field) 0 ⌝ }
+{
+    if nodes.len() / 3 < i {
+        return 0;
+    }
+    word_after(nodes, 3 * i, field)
+}
+
+// A word of property record k, 0 outside the table.
+pub fn prop_word(props: &[u32], k: usize, field: usize) -> usize
+    ensures { λ r. ⌜ r ≡ getD (now (props .entry)) (5 * k + field) 0 ⌝ }
+{
+    if props.len() / 5 < k {
+        return 0;
+    }
+    word_after(props, 5 * k, field)
+}

@@ -1,0 +1,42 @@
+-- What the tests of children decide. Assumes nothing.
+use mathlib.Core.Path.{_≡_, sym, _∙_}
+use mathlib.Core.Bool.{false}
+use mathlib.Core.Logic.{_↔_}
+use mathlib.Core.List.{List}
+use Prim.Native.Nat.{ℕ, _+_, _<_}
+use native.Mathlib.Numerals.{add-one}
+use lib.ListN.{length}
+use Rattle.laws.specs.Search.{countBelow, listBelow}
+use Rattle.laws.specs.Listing.{Listing}
+use Rattle.laws.proofs.SearchLaws.{list-length}
+use Rattle.laws.proofs.ListingLaws.{listed, listing-unique}
+use Rattle.laws.proofs.DecideLaws.{Decides, decides-as, decides-not}
+use Rattle.tables.specs.Tree.{Child}
+use Rattle.tables.proofs.DepthLaws.{DepthFirst, first-child}
+use Rattle.cpus.specs.Check.{isChild}
+use Rattle.cpus.proofs.CpuMeans.{child-test}
+use Rattle.topology.specs.Check.{hasChild}
+
+module _ (nodes : List ℕ) where
+  -- the children of p before record i, and how many there are
+  pub earlier-children : (p i : ℕ) → Listing (λ j. Child nodes p j × (j < i)) (listBelow (isChild nodes p) i)
+  earlier-children p i =
+      listed (isChild nodes p) i
+      (λ j t. (t .1, child-test nodes p j .1 (t .0)))
+      (λ j lt e. (child-test nodes p j .0 e, lt))
+
+  pub earlier-count : (p i : ℕ) (earlier : List ℕ) → Listing (λ j. Child nodes p j × (j < i)) earlier → countBelow (isChild nodes p) i ≡ length earlier
+  earlier-count p i earlier h =
+      sym (list-length (isChild nodes p) i) ∙ rw (listing-unique (listBelow (isChild nodes p) i) earlier (earlier-children p i) h)
+
+  module _ (depth : DepthFirst nodes) where
+    -- in a depth-first table the first child of i is the record after it
+    pub has-child-test : (i : ℕ) → Decides (hasChild nodes i) ((j : ℕ) × Child nodes i j)
+    unfolding hasChild
+    has-child-test i = decides-as (child-test nodes i (i + 1)) (λ c. (i + 1, c)) (λ t. rw (add-one i) (first-child depth (t .1)))
+
+    -- no child, as a fact about every record
+    pub childless-test : (i : ℕ) → (hasChild nodes i ≡ false) ↔ ((j : ℕ) → Child nodes i j → ⊥)
+    childless-test i =
+        let t = decides-not (has-child-test i) in
+        (λ e j c. t .0 e (j, c), λ none. t .1 (λ c. none (c .0) (c .1)))

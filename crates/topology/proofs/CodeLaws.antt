@@ -1,0 +1,158 @@
+-- What the proofs of the code cite of the definitions. Assumes nothing.
+use mathlib.Core.Path.{_≡_, refl, sym, ap, ap₂, _∙_}
+use mathlib.Core.Bool.{Bool, true, false, cond}
+use mathlib.Core.List.{List}
+use Prim.Native.Nat.{ℕ, _+_, _-_, _≤_, _<_}
+use native.Mathlib.Omega.{arith}
+use lib.Dec.{eqb, ltb}
+use lib.ListN.{length}
+use borrow.Author.Tests.{lt-ltb, le-ltb, le-leb, lt-leb, eq-eqb, ne-eqb}
+use Rattle.laws.specs.declared.Fault.{Fault}
+use Rattle.laws.specs.Fault.{firstFault, orNumber}
+use Rattle.laws.specs.Search.{countBelow}
+use Rattle.names.specs.declared.TopologyName.{TopologyName}
+use Rattle.names.specs.declared.TopologyName.the-variants.{Other}
+use Rattle.names.specs.Name.{nameOf}
+use Rattle.tables.specs.Board.{nodeCount, range, parentWord, nameOffset, nameLength}
+use Rattle.tables.specs.declared.Parent.the-variants.{Is, Top}
+use Rattle.tables.specs.Tree.{parentOf, climb, isBelow, Child, Ancestor}
+use Rattle.tables.proofs.TreeLaws.{parent-is, parent-top, climb-parent, climb-none, below-ancestor}
+use Rattle.cpus.specs.Check.{isChild}
+use Rattle.topology.specs.Path.{gap, topologyName, noClusters, clusterStep, clusterPath, socketStep, socketNumber}
+use Rattle.topology.specs.Find.{mapOf, secondMapFault, mapFault, mapScan}
+use Rattle.topology.specs.Check.{hasChild, kindNumber, kindFault, numberFault, leafCpu, shapeFault, broken, leafCheck, isLeafName, mapRecordFault, mapRecordCheck}
+use Rattle.laws.proofs.PassLaws.{count-none}
+
+module _ (nodes pool : List ℕ) (i : ℕ) where
+  -- the name of record i
+  pub name-none : nodeCount nodes ≤ i → Other ≡ topologyName nodes pool i
+  unfolding topologyName
+  name-none h = rw (le-ltb i (nodeCount nodes) h)
+
+  pub name-outside :
+      {offset len : ℕ} → i < nodeCount nodes → offset ≡ nameOffset nodes i → len ≡ nameLength nodes i → length pool < offset + len → Other ≡ topologyName nodes pool i
+  unfolding topologyName
+  name-outside h o l out =
+      let far : length pool < nameOffset nodes i + nameLength nodes i = rw (o, l) at out in
+      rw (lt-ltb i (nodeCount nodes) h, lt-leb (nameOffset nodes i + nameLength nodes i) (length pool) far)
+
+  pub name-read :
+      {offset len : ℕ} →
+      i < nodeCount nodes →
+      offset ≡ nameOffset nodes i →
+      len ≡ nameLength nodes i →
+      offset + len ≤ length pool →
+      nameOf (range pool offset (offset + len - offset)) ≡ topologyName nodes pool i
+  unfolding topologyName
+  name-read {offset} {len} h o l inside =
+      let size : offset + len - offset ≡ len = omega arith in
+      let near : nameOffset nodes i + nameLength nodes i ≤ length pool = rw (o, l) at inside in
+      ap₂ (λ (x y : ℕ). nameOf (range pool x y)) o (size ∙ l)
+      ∙ sym (rw (lt-ltb i (nodeCount nodes) h, le-leb (nameOffset nodes i + nameLength nodes i) (length pool) near))
+
+  -- a value by recursion on the parent, at a record with a parent
+  climb-is : {A : Type 0} (top : A) (step : ℕ → A → A) (p : ℕ) → parentOf nodes i ≡ Is p → step i (climb nodes top step p) ≡ climb nodes top step i
+  climb-is top step p h =
+      let at = parent-is nodes i p h in
+      ap (λ (q : ℕ). step i (climb nodes top step q)) (sym (at .1)) ∙ climb-parent nodes top step i (at .0)
+
+  -- the clusters and the socket above record i
+  pub path-none : parentOf nodes i ≡ Top → noClusters ≡ clusterPath nodes pool i
+  unfolding clusterPath
+  path-none h = climb-none nodes noClusters (λ j path. clusterStep (topologyName nodes pool j) path) i (parent-top nodes i h)
+
+  pub path-is : (p : ℕ) → parentOf nodes i ≡ Is p → clusterStep (topologyName nodes pool i) (clusterPath nodes pool p) ≡ clusterPath nodes pool i
+  unfolding clusterPath
+  path-is p h = climb-is noClusters (λ j path. clusterStep (topologyName nodes pool j) path) p h
+
+  pub socket-none : parentOf nodes i ≡ Top → gap ≡ socketNumber nodes pool i
+  unfolding socketNumber
+  socket-none h = climb-none nodes gap (λ j socket. socketStep (topologyName nodes pool j) socket) i (parent-top nodes i h)
+
+  pub socket-is : (p : ℕ) → parentOf nodes i ≡ Is p → socketStep (topologyName nodes pool i) (socketNumber nodes pool p) ≡ socketNumber nodes pool i
+  unfolding socketNumber
+  socket-is p h = climb-is gap (λ j socket. socketStep (topologyName nodes pool j) socket) p h
+
+-- the records up to p are no children of p
+pub no-children : (nodes : List ℕ) (p : ℕ) → countBelow (isChild nodes p) (p + 1) ≡ 0
+unfolding isChild
+no-children nodes p = count-none (isChild nodes p) (p + 1) (λ k lt. go (ltb k (nodeCount nodes)) (eqb (parentWord nodes k) p) (ltb p k) (le-ltb p k (omega arith)))
+  where
+    go : (a b c : Bool) → c ≡ false → cond a (cond b c false) false ≡ false
+    go true true c h = h
+    go true false c h = refl
+    go false b c h = refl
+
+-- the search for the map
+module _ (nodes pool : List ℕ) where
+  abbrev seconds : Fault
+  seconds = firstFault (secondMapFault nodes pool) (nodeCount nodes)
+
+  pub map-none : {m : ℕ} → m ≡ mapOf nodes pool → nodeCount nodes ≤ m → record { number = 15; place = 0; map = 0 } ≡ mapScan nodes pool
+  unfolding mapScan mapFault
+  map-none e le = rw (le-ltb (mapOf nodes pool) (nodeCount nodes) (rw e at le))
+
+  past-map : {m : ℕ} {f : Fault} → m ≡ mapOf nodes pool → m < nodeCount nodes → f ≡ seconds → mapFault nodes pool ≡ f
+  unfolding mapFault
+  past-map e lt s = rw (lt-ltb (mapOf nodes pool) (nodeCount nodes) (rw e at lt)) (sym s)
+
+  pub map-second :
+      {m : ℕ} {f : Fault} →
+      m ≡ mapOf nodes pool →
+      m < nodeCount nodes →
+      f ≡ seconds →
+      (f .number ≡ 0 → ⊥) →
+      record { number = f .number; place = f .place; map = 0 } ≡ mapScan nodes pool
+  unfolding mapScan
+  map-second {m} {f} e lt s ne = rw (past-map e lt s, ne-eqb (f .number) 0 ne)
+
+  pub map-found :
+      {m : ℕ} {f : Fault} → m ≡ mapOf nodes pool → m < nodeCount nodes → f ≡ seconds → f .number ≡ 0 → record { number = 0; place = 0; map = m } ≡ mapScan nodes pool
+  unfolding mapScan
+  map-found {m} {f} e lt s z = rw (past-map e lt s, eq-eqb (f .number) 0 z, ← e)
+
+-- a record below another is in the table and has an earlier parent
+pub below-later : (nodes : List ℕ) (a i : ℕ) → isBelow nodes i a ≡ true → (i < nodeCount nodes) × (parentWord nodes i < i)
+below-later nodes a i h = go (below-ancestor nodes a i h)
+  where
+    child : {p : ℕ} → Child nodes p i → (i < nodeCount nodes) × (parentWord nodes i < i)
+    child c = (c .inside, rw (c .word) (c .earlier))
+
+    go : Ancestor nodes a i → (i < nodeCount nodes) × (parentWord nodes i < i)
+    go (Ancestor.parent c) = child c
+    go (Ancestor.above c t) = child c
+
+-- no record comes after the last
+pub no-child : (nodes : List ℕ) (i : ℕ) → nodeCount nodes ≤ i → false ≡ hasChild nodes i
+unfolding hasChild isChild
+no-child nodes i h = rw (le-ltb (i + 1) (nodeCount nodes) (omega arith))
+
+-- rules 19 to 23 at a record below the map, whose parent is p
+pub named-fault :
+    (nodes pool : List ℕ) (map i : ℕ) (name : TopologyName) {p : ℕ} →
+    (kindNumber name ≡ 0 → ⊥) →
+    p ≡ parentWord nodes i →
+    orNumber (kindFault nodes pool map p name) (orNumber (numberFault nodes p i name) (shapeFault nodes pool p i name)) ≡ mapRecordFault nodes pool map i name
+unfolding mapRecordFault
+named-fault nodes pool map i name ne e =
+    rw (ne-eqb (kindNumber name) 0 ne)
+    (ap (λ (q : ℕ). orNumber (kindFault nodes pool map q name) (orNumber (numberFault nodes q i name) (shapeFault nodes pool q i name))) e)
+
+-- rules 19 to 24 at a record below the map with a given name
+module _ (nodes props pool : List ℕ) (map : ℕ) (phandles : List ℕ) (i : ℕ) {name : TopologyName} {v : ℕ} (n : name ≡ topologyName nodes pool i) (e : v ≡ mapRecordFault nodes pool map i name) where
+  fault : v ≡ mapRecordFault nodes pool map i (topologyName nodes pool i)
+  fault = e ∙ ap (mapRecordFault nodes pool map i) n
+
+  pub shape-told : (v ≡ 0 → ⊥) → broken v (length phandles) ≡ mapRecordCheck nodes props pool map phandles i
+  unfolding mapRecordCheck
+  shape-told ne = rw (← fault, ne-eqb v 0 ne)
+
+  leaf-or-not : {b : Bool} → v ≡ 0 → b ≡ isLeafName nodes i name → cond b (leafCheck (length phandles) (leafCpu props pool phandles i)) (broken 0 (length phandles)) ≡ mapRecordCheck nodes props pool map phandles i
+  unfolding mapRecordCheck
+  leaf-or-not z l = rw (eq-eqb _ _ (sym fault ∙ z)) (ap (λ (b : Bool). cond b (leafCheck (length phandles) (leafCpu props pool phandles i)) (broken 0 (length phandles))) (l ∙ ap (isLeafName nodes i) n))
+
+  pub leaf-told : {b : Bool} → v ≡ 0 → b ≡ isLeafName nodes i name → b ≡ true → leafCheck (length phandles) (leafCpu props pool phandles i) ≡ mapRecordCheck nodes props pool map phandles i
+  leaf-told z l t = leaf-or-not z (sym t ∙ l)
+
+  pub inner-told : {b : Bool} → v ≡ 0 → b ≡ isLeafName nodes i name → b ≡ false → broken 0 (length phandles) ≡ mapRecordCheck nodes props pool map phandles i
+  inner-told z l t = leaf-or-not z (sym t ∙ l)

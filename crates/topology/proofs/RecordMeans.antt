@@ -1,0 +1,166 @@
+-- Rules 19 to 23 at a record below the map: the smallest that is broken is told. Assumes well-formed tables, no topology name of record 0, and sound earlier records.
+use mathlib.Core.Path.{_≡_, sym, _∙_}
+use mathlib.Core.Logic.{⊎-elim, _↔_}
+use mathlib.Core.List.{List}
+use Prim.Native.Nat.{ℕ, _≤_, _<_}
+use native.Mathlib.Omega.{arith}
+use lib.ListN.{length}
+use Rattle.laws.specs.Fault.{orNumber}
+use Rattle.laws.specs.Listing.{Listing}
+use Rattle.laws.specs.Search.{countBelow, listBelow}
+use Rattle.laws.proofs.SearchLaws.{lt-or-le, list-length}
+use Rattle.laws.proofs.ListingLaws.{listing-unique}
+use Rattle.laws.proofs.LeastLaws.{Tested, Least, least-low, least-one, least-then}
+use Rattle.laws.proofs.DecideLaws.{eq-decides, lt-decides}
+use Rattle.laws.proofs.TestedLaws.{tested-unless}
+use Rattle.names.specs.declared.TopologyName.{TopologyName}
+use Rattle.names.specs.declared.TopologyName.the-variants.{Other}
+use Rattle.names.specs.Kind.{Kind, Named}
+use Rattle.names.specs.Name.{answered}
+use Rattle.names.proofs.NameMeans.{named-unique}
+use Rattle.tables.specs.Board.{Board, nodeName, parentWord}
+use Rattle.tables.specs.Tree.{Child}
+use Rattle.tables.specs.Rules.{WellFormed}
+use Rattle.tables.proofs.DepthLaws.{child-unique}
+use Rattle.tables.proofs.WellFormedLaws.{wf-depth}
+use Rattle.cpus.specs.Check.{isChild}
+use Rattle.topology.specs.Map.{Map, InMap, Is, Childless, ClusterAbove}
+use Rattle.topology.specs.Path.{topologyName, clusterPath}
+use Rattle.topology.specs.Rules.{MapRule}
+use Rattle.topology.specs.Check.{kindNumber, topologyNumber, groupFault, depthFault, numberFault, shapeFault, mapRecordFault}
+use Rattle.topology.proofs.ChildMeans.{earlier-children, earlier-count, has-child-test}
+use Rattle.topology.proofs.NameFacts.{topology-cases, kinds-apart, number-answered}
+use Rattle.topology.proofs.RuleCases.{WrongNumber, DeepCluster, rule-means}
+use Rattle.topology.proofs.MapMeans.{in-map-below, map-not-below}
+use Rattle.topology.proofs.PathMeans.{clusterList, clusters-listing, depth-below}
+use Rattle.topology.proofs.KindMeans.{parent-of, fault-named, kind-tested}
+
+-- rule 23 where a record that must have children has none
+pub group-tested : (b : Board) (well : WellFormed b) (i : ℕ) → (Childless b i → MapRule b 23 i) → Tested 23 (MapRule b 23 i) (groupFault (b .nodes) i)
+group-tested b well i breaks =
+    tested-unless
+    (λ t (r : MapRule b 23 i). rule-means r .0 (t .0) (t .1))
+    (λ none. breaks (λ j c. none (j, c)))
+    (has-child-test (b .nodes) (wf-depth well) i)
+
+module _
+    (b : Board)
+    (well : WellFormed b)
+    (nameless : (kind : Kind) → Is b kind 0 → ⊥)
+    (m : ℕ)
+    (map : Map b m)
+    (i : ℕ)
+    (in-map : InMap b i)
+  where
+    abbrev name : ℕ → TopologyName
+    name k = topologyName (b .nodes) (b .pool) k
+
+    abbrev over : ℕ
+    over = parentWord (b .nodes) i
+
+    abbrev Rule : ℕ → Type 0
+    Rule n = MapRule b n i
+
+    child : Child (b .nodes) over i
+    child = parent-of (in-map-below b m map i in-map)
+
+    -- rule 21
+    number-tested : (kind : Kind) (n : ℕ) → Named (nodeName b i) kind n → Tested 21 (Rule 21) (numberFault (b .nodes) over i (answered kind n))
+    unfolding numberFault
+    number-tested kind n named = tested-unless keeps breaks (eq-decides (topologyNumber (answered kind n)) count)
+      where
+        count : ℕ
+        count = countBelow (isChild (b .nodes) over) i
+
+        keeps : topologyNumber (answered kind n) ≡ count → Rule 21 → ⊥
+        keeps e r = wrong (rule-means r)
+          where
+            wrong : WrongNumber b i → ⊥
+            wrong w =
+                let size : count ≡ length (w .earlier) = earlier-count (b .nodes) over i (w .earlier) (rw (child-unique (w .child) child) at (w .listing)) in
+                w .differ (named-unique (w .name) named .1 ∙ sym (number-answered kind n) ∙ e ∙ size)
+
+        breaks : (topologyNumber (answered kind n) ≡ count → ⊥) → Rule 21
+        breaks ne =
+            MapRule.wrongNumber i over n kind (listBelow (isChild (b .nodes) over) i) in-map child named (earlier-children (b .nodes) over i)
+            (λ e. ne (number-answered kind n ∙ e ∙ list-length (isChild (b .nodes) over) i))
+
+    -- rule 22, of a cluster alone
+    abbrev above : List ℕ
+    above = clusterList (b .nodes) (b .pool) i
+
+    abbrev depth : ℕ
+    depth = clusterPath (b .nodes) (b .pool) over .depth
+
+    few : (depth < 4) ↔ (length above ≤ 3)
+    few = depth-below b well nameless over i child
+
+    listing : Listing (ClusterAbove b i) above
+    listing = clusters-listing b well nameless i
+
+    depth-tested : Is b Kind.cluster i → Tested 22 (Rule 22) (depthFault (b .nodes) (b .pool) over)
+    unfolding depthFault
+    depth-tested is = tested-unless (λ lt r. deep lt (rule-means r)) breaks (lt-decides depth 4)
+      where
+        deep : depth < 4 → DeepCluster b i → ⊥
+        deep lt w = omega (arith, few .0 lt, rw (listing-unique (w .list) above (w .listing) listing) at (w .many))
+
+        breaks : (depth < 4 → ⊥) → Rule 22
+        breaks n = MapRule.deepCluster i above in-map is listing (⊎-elim (λ lt. lt) (λ le. absurd (n (few .1 le))) (lt-or-le 3 (length above)))
+
+    not-deep : (Is b Kind.cluster i → ⊥) → Tested 22 (Rule 22) 0
+    not-deep none = Tested.sound (λ r. none (rule-means r .is))
+
+    not-empty : (Is b Kind.socket i → ⊥) → (Is b Kind.cluster i → ⊥) → Tested 23 (Rule 23) 0
+    not-empty no-socket no-cluster = Tested.sound (λ r. ⊎-elim is-map (⊎-elim no-socket no-cluster) (rule-means r .1))
+      where
+        is-map : Map b i → ⊥
+        is-map s = map-not-below b i s in-map
+
+    -- rules 22 and 23
+    pair : {v w : ℕ} → Tested 22 (Rule 22) v → Tested 23 (Rule 23) w → Least Rule 22 23 (orNumber v w)
+    pair {v} {w} s t = least-then Rule 22 22 23 v w (omega arith) (omega arith) (least-one Rule 22 (omega arith) s) (least-one Rule 23 (omega arith) t)
+
+    apart : (k j : Kind) (n : ℕ) → Named (nodeName b i) k n → (kindNumber (answered j 0) ≡ kindNumber (answered k 0) → ⊥) → Is b j i → ⊥
+    apart k j n q ne t = kinds-apart b i j k ne t (n, q)
+
+    shape-least : (kind : Kind) (n : ℕ) → Named (nodeName b i) kind n → Least Rule 22 23 (shapeFault (b .nodes) (b .pool) over i (answered kind n))
+    shape-least Kind.socket n q =
+        pair (not-deep (apart Kind.socket Kind.cluster n q (λ z. omega arith))) (group-tested b well i (MapRule.emptySocket i in-map (n, q)))
+    shape-least Kind.cluster n q = pair (depth-tested (n, q)) (group-tested b well i (MapRule.emptyCluster i in-map (n, q)))
+    shape-least Kind.core n q =
+        let no-cluster = apart Kind.core Kind.cluster n q (λ z. omega arith) in
+        pair (not-deep no-cluster) (not-empty (apart Kind.core Kind.socket n q (λ z. omega arith)) no-cluster)
+    shape-least Kind.thread n q =
+        let no-cluster = apart Kind.thread Kind.cluster n q (λ z. omega arith) in
+        pair (not-deep no-cluster) (not-empty (apart Kind.thread Kind.socket n q (λ z. omega arith)) no-cluster)
+
+    module _ (lower : (k : ℕ) → k < i → InMap b k → mapRecordFault (b .nodes) (b .pool) m k (name k) ≡ 0) where
+      abbrev fault : ℕ
+      fault = mapRecordFault (b .nodes) (b .pool) m i (name i)
+
+      -- the smallest of the five rules
+      pub record-told : Least Rule 19 23 fault
+      record-told = ⊎-elim named unnamed (topology-cases b well i (child .inside))
+        where
+          other : ((kind : Kind) → Is b kind i → ⊥) → Least Rule 19 23 (mapRecordFault (b .nodes) (b .pool) m i Other)
+          other none = unfold mapRecordFault in least-low Rule 19 23 (omega arith) (omega arith) (MapRule.noTopologyName i in-map none)
+
+          unnamed : (name i ≡ Other) × ((kind : Kind) → Is b kind i → ⊥) → Least Rule 19 23 fault
+          unnamed t = rw (t .0) (other (t .1))
+
+          faults : (kind : Kind) (n : ℕ) → Named (nodeName b i) kind n → Least Rule 19 23 (mapRecordFault (b .nodes) (b .pool) m i (answered kind n))
+          faults kind n q =
+              rw (fault-named b well m map i kind n)
+              (least-then Rule 19 19 23 0 _ (omega arith) (omega arith) (least-one Rule 19 (omega arith) (Tested.sound (λ r. rule-means r kind (n, q))))
+              (least-then Rule 20 20 23 _ _ (omega arith) (omega arith) (least-one Rule 20 (omega arith) (kind-tested b well m map i in-map lower kind n q))
+              (least-then Rule 21 21 23 _ _ (omega arith) (omega arith) (least-one Rule 21 (omega arith) (number-tested kind n q)) (shape-least kind n q))))
+
+          named : (kind : Kind) × (n : ℕ) × (name i ≡ answered kind n) × Named (nodeName b i) kind n → Least Rule 19 23 fault
+          named t = rw (t .2) (faults (t .0) (t .1) (t .3))
+
+      pub record-sound : (v : ℕ) → fault ≡ v → (v ≡ 0 → ⊥) → MapRule b v i × (19 ≤ v) × (v ≤ 23)
+      record-sound v e ne = rw e at (record-told .sound (λ z. ne (sym e ∙ z)))
+
+      pub record-least : (n : ℕ) → MapRule b n i → 19 ≤ n → n ≤ 23 → (fault ≡ 0 → ⊥) × (fault ≤ n)
+      record-least = record-told .least

@@ -1,0 +1,96 @@
+-- The first broken one of rules 18 to 26 is told. Assumes well-formed tables, sound cpu nodes and phandles.
+use mathlib.Core.Path.{_≡_}
+use mathlib.Core.Bool.{Bool, true, false, cond}
+use mathlib.Core.Logic.{⊎-elim}
+use Prim.Native.Nat.{ℕ, _≤_, _<_}
+use native.Mathlib.Omega.{arith}
+use lib.Dec.{ltb}
+use lib.ListN.{length}
+use borrow.Author.Tests.{le-ltb}
+use Rattle.laws.specs.declared.Fault.{Fault}
+use Rattle.laws.specs.Fault.{told, orElse, firstFault}
+use Rattle.laws.proofs.FaultLaws.{place-le}
+use Rattle.laws.proofs.FirstLaws.{Tells, Stage, stage-tells}
+use Rattle.laws.proofs.RuleStageLaws.{NoneOf, stages-tell, else-place}
+use Rattle.laws.proofs.LeastLaws.{least-one}
+use Rattle.laws.proofs.LeastStageLaws.{Run, least-stage}
+use Rattle.tables.specs.Board.{Board, Typed, nodeCount}
+use Rattle.tables.specs.Order.{stage}
+use Rattle.tables.specs.Rules.{WellFormed}
+use Rattle.cpus.specs.Rules.{maxCpus, CpuRule, SoundCpus}
+use Rattle.topology.specs.Map.{Map}
+use Rattle.topology.specs.Rules.{MapRule}
+use Rattle.topology.specs.Scan.{Tree, check, treeFault, unmappedFault, leavesFault}
+use Rattle.topology.proofs.PhandleMeans.{few-phandles}
+use Rattle.topology.proofs.CheckLeaf.{treeAt}
+use Rattle.topology.proofs.LeafRules.{unmapped-tested}
+use Rattle.topology.proofs.RuleStages.{stage-13, stage-14, late-stage}
+use Rattle.topology.proofs.TreeLeast.{sound-checks, tree-least}
+
+-- a place told is at most the number of records
+pub leaves-place : (t : Tree) → leavesFault t .place ≤ nodeCount (t .nodes)
+unfolding leavesFault
+leaves-place t = go (ltb maxCpus (length (t .phandles)))
+  where
+    here : Fault
+    here = firstFault (treeFault t) (nodeCount (t .nodes))
+
+    there : Fault
+    there = firstFault (unmappedFault t) (nodeCount (t .nodes))
+
+    go : (many : Bool) → cond many (told 10 0) (orElse here there) .place ≤ nodeCount (t .nodes)
+    go true = omega arith
+    go false = else-place here there (place-le (treeFault t) (nodeCount (t .nodes))) (λ _. place-le (unmappedFault t) (nodeCount (t .nodes)))
+
+module _ {b : Board} (typed : Typed b) (well : WellFormed b) (sound : SoundCpus b) (no17 : (p : ℕ) → CpuRule b 17 p → ⊥) {m : ℕ} (is-map : Map b m) where
+  abbrev t : Tree
+  t = treeAt b m
+
+  abbrev count : ℕ
+  count = nodeCount (b .nodes)
+
+  module _
+      (R : ℕ → ℕ → Type 0)
+      (into : (n p : ℕ) → MapRule b n p → R n p)
+      (back : (n p : ℕ) → R n p → 13 ≤ stage n → stage n ≤ 14 → MapRule b n p)
+    where
+      tree-run : Run stage (MapRule b) R 13 18 25
+      tree-run =
+          record {
+            into = into;
+            back = λ n p r e. back n p r (omega arith) (omega arith);
+            numbers = λ n p r e. let w = stage-13 r e in (w .0, w .1);
+            in-stage = λ n p r l h. ⊎-elim (λ w. w .0) (λ w. absurd (omega (arith, w .1))) (late-stage r l);
+          }
+
+      last-run : Run stage (MapRule b) R 14 26 26
+      last-run =
+          record {
+            into = into;
+            back = λ n p r e. back n p r (omega arith) (omega arith);
+            numbers = λ n p r e. let q = stage-14 r e .0 in (omega arith, omega arith);
+            in-stage = λ n p r l h. ⊎-elim (λ w. absurd (omega (arith, w .1))) (λ w. w .0) (late-stage r (omega arith));
+          }
+
+      pub tree-stage : Stage stage R 13 count (treeFault t)
+      tree-stage =
+          least-stage stage (MapRule b) R 13 18 25 tree-run count (treeFault t) (λ n p r e. stage-13 r e .2) (λ i lt clean. tree-least typed well sound no17 is-map i clean lt)
+
+      pub unmapped-stage : NoneOf stage R 13 → Stage stage R 14 count (unmappedFault t)
+      unmapped-stage none =
+          least-stage stage (MapRule b) R 14 26 26 last-run count (unmappedFault t) (λ n p r e. stage-14 r e .1)
+          (λ i _ _. least-one (λ n. MapRule b n i) 26 (omega arith) (unmapped-tested typed well no17 is-map clean i))
+        where
+          clean : (k : ℕ) → k < count → check t k .number ≡ 0
+          clean = sound-checks typed well sound no17 is-map (λ n p r l h. none n p (into n p r) (tree-run .in-stage n p r l h))
+
+      -- what the scan of the tree tells, and what comes after it where none of rules 18 to 26 is broken
+      pub tree-tells : (after : Fault) → (((n p : ℕ) → MapRule b n p → 18 ≤ n → ⊥) → Tells stage R 15 after) → Tells stage R 13 (orElse (leavesFault t) after)
+      unfolding leavesFault
+      tree-tells after rest =
+          rw (le-ltb maxCpus (length (t .phandles)) (few-phandles typed well sound))
+          (stages-tell stage R 13 count (treeFault t) (firstFault (unmappedFault t) count) after tree-stage
+          (λ none. stage-tells stage R 14 count (unmappedFault t) after (unmapped-stage none) (λ later. rest (neither none later))))
+        where
+          neither : NoneOf stage R 13 → NoneOf stage R 14 → (n p : ℕ) → MapRule b n p → 18 ≤ n → ⊥
+          neither none later n p r le = ⊎-elim (λ w. none n p (into n p r) (w .0)) (λ w. later n p (into n p r) (w .0)) (late-stage r le)

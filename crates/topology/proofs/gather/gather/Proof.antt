@@ -1,0 +1,138 @@
+-- `gather` meets its contract: the arrays hold the leaves before record i, and a record that breaks no rule has room in them. Assumes nothing.
+use mathlib.Core.Path.{_≡_, refl, sym, ap, _∙_}
+use mathlib.Core.Bool.{true}
+use Prim.Native.Nat.{_≤_, _<_, _-_}
+use native.Mathlib.Omega.{arith}
+use lib.Seq.{length-take-le}
+use borrow.Author.Tests.{not-true, not-false}
+use borrow.Author.Needs.{needs}
+use Rattle.laws.specs.Pad.{padded}
+use Rattle.topology.specs.declared.RecordCheck.{RecordCheck}
+use Rattle.topology.specs.Scan.{tree, isLeaf, treeFault}
+use Rattle.topology.proofs.ScanLaws.{Gathered, gathered-none, gathered-within, fault-is, gather-told, gather-all, gather-keep, gather-room, gather-push}
+use Rattle.topology.proofs.gather.gather.Statement.{statement}
+use Rattle.topology.proofs.gather.gather.Tie as tie
+
+abbrev Inv-loop : tie.InvT-loop
+Inv-loop nodes props pool map phandles n records₀ cpus₀ count₀ i₀ records cpus count i = (i ≤ n) × Gathered (tree nodes props pool map phandles) records cpus count i
+
+abbrev μ-loop : tie.MeasureT-loop
+μ-loop nodes props pool map phandles n records₀ cpus₀ count₀ i₀ records cpus count i = n - i
+
+-- what the check of record i answers is what it breaks
+fault :
+    (c : tie.After-checked-fault Inv-loop μ-loop) →
+    let at = c .before .before .before .before in
+    let a = at .before .before .before .before .before .args in
+    c .checked-fault .result ≡ treeFault (tree (a .nodes .now) (a .props .now) (a .pool .now) (a .map) (a .phandles .now)) (at .loop .i)
+fault c = let call = c .before .before in fault-is _ (call .before .before .loop .inv .1) (call .record-check .ensures) (c .checked-fault .ensures)
+
+-- record i is a leaf
+leaf :
+    (c : tie.Else2 Inv-loop μ-loop) →
+    let at = c .before .before .before .before .before .before .before in
+    let a = at .before .before .before .before .before .args in
+    isLeaf (tree (a .nodes .now) (a .props .now) (a .pool .now) (a .map) (a .phandles .now)) (at .loop .i) ≡ true
+leaf c = let call = c .before .before .before .before .before .record-check in sym (ap (λ (r : RecordCheck). r .leaf) (call .ensures)) ∙ not-false (call .result .leaf) (c .if2 .left)
+
+room : (c : tie.Else2 Inv-loop μ-loop) → c .before .before .before .before .before .before .before .loop .count < 256
+room c =
+    let test = c .before .before in
+    let at = test .before .before .before .before .before in
+    gather-room _ (at .loop .inv .1) (fault (test .before)) (test .if1 .left) (at .before .before .before .before .before .pre) (leaf c)
+
+loop-holds : tie.Need-loop-holds Inv-loop μ-loop
+unfolding padded
+loop-holds c = (omega arith, gathered-none _ refl refl)
+
+record-check-requires : tie.Need-record-check-requires Inv-loop μ-loop
+record-check-requires c κs = search needs
+
+array-share-prefix-cpus : tie.Need-array-share-prefix-cpus Inv-loop μ-loop
+array-share-prefix-cpus c = gathered-within _ (c .before .before .loop .inv .1)
+
+slice-aggregate-checked-fault : tie.Need-slice-aggregate-checked-fault Inv-loop μ-loop
+slice-aggregate-checked-fault c = let loop = c .before .before .before .loop in sym (length-take-le (loop .count) (loop .cpus) (gathered-within _ (loop .inv .1)))
+
+checked-fault-requires : tie.Need-checked-fault-requires Inv-loop μ-loop
+checked-fault-requires c κs = search needs
+
+refuse-requires : tie.Need-refuse-requires Inv-loop μ-loop
+refuse-requires c κs = search needs
+
+returns : tie.Need-returns Inv-loop μ-loop
+returns c =
+    let call = c .before .before in
+    c .refuse .ensures ∙ gather-told _ (call .before .before .before .before .loop .inv .1) (omega arith) (fault call) (c .before .if1 .taken)
+
+add-i : tie.Need-add-i Inv-loop μ-loop
+add-i c = search needs
+
+loop-less : tie.Need-loop-less Inv-loop μ-loop
+loop-less c = search needs
+
+loop-again : tie.Need-loop-again Inv-loop μ-loop
+loop-again c =
+    let test = c .before .before in
+    let call = test .before .before .before in
+    let loop = call .before .before .loop in
+    (omega arith, gather-keep _ (loop .inv .1) (fault (test .before)) (test .if1 .left) (sym (ap (λ (r : RecordCheck). r .leaf) (call .record-check .ensures)) ∙ not-true (call .record-check .result .leaf) (c .if2 .taken)))
+
+mul-records : tie.Need-mul-records Inv-loop μ-loop
+mul-records c = omega (arith, room c)
+
+array-write-records : tie.Need-array-write-records Inv-loop μ-loop
+array-write-records c = room c
+
+mul-cpus : tie.Need-mul-cpus Inv-loop μ-loop
+mul-cpus c = omega (arith, room c)
+
+array-write-cpus : tie.Need-array-write-cpus Inv-loop μ-loop
+array-write-cpus c = room c
+
+add-count : tie.Need-add-count Inv-loop μ-loop
+add-count c = omega (arith, room c)
+
+add-i-2 : tie.Need-add-i-2 Inv-loop μ-loop
+add-i-2 c = search needs
+
+loop-less-2 : tie.Need-loop-less-2 Inv-loop μ-loop
+loop-less-2 c = search needs
+
+loop-again-2 : tie.Need-loop-again-2 Inv-loop μ-loop
+loop-again-2 c =
+    let test = c .before .before in
+    let call = test .before .before .before in
+    let at = call .before .before in (
+      omega arith,
+      gather-push _ (at .loop .inv .1) (fault (test .before)) (test .if1 .left) (at .before .before .before .before .before .pre) (leaf c) (ap (λ (r : RecordCheck). r .cpu) (call .record-check .ensures)),
+    )
+
+returns-2 : tie.Need-returns-2 Inv-loop μ-loop
+returns-2 c = gather-all _ (c .before .loop .inv .1) (omega arith)
+
+pub gather-spec : {M : Type 1} → statement M
+gather-spec =
+    tie.close
+    (tie.spec
+    Inv-loop
+    μ-loop
+    loop-holds
+    record-check-requires
+    array-share-prefix-cpus
+    slice-aggregate-checked-fault
+    checked-fault-requires
+    refuse-requires
+    returns
+    add-i
+    loop-less
+    loop-again
+    mul-records
+    array-write-records
+    mul-cpus
+    array-write-cpus
+    add-count
+    add-i-2
+    loop-less-2
+    loop-again-2
+    returns-2)

@@ -1,0 +1,103 @@
+// Kinds of the map's records and which may stand under which: rule 20.
+use crate::path::topology_name;
+use names::TopologyName;
+ghost use mathlib.Core.Path.{_≡_};
+ghost use mathlib.Core.Bool.{cond};
+ghost use Prim.Native.Nat.{_<_};
+ghost use lib.Dec.{eqb};
+ghost use Rattle.tables.specs.Board.{nodeCount};
+ghost use Rattle.topology.specs.Path.{topologyName};
+ghost use Rattle.topology.specs.Check.{allowedUnder, allowedInMap, kindNumber, topologyNumber, kindFault};
+
+// A kind as a number, from 1; 0 for Other.
+pub fn kind_number(name: TopologyName) -> u32
+    ensures { λ r. ⌜ r ≡ kindNumber name ⌝ }
+{
+    match name {
+        TopologyName::Socket(_) => 1,
+        TopologyName::Cluster(_) => 2,
+        TopologyName::Core(_) => 3,
+        TopologyName::Thread(_) => 4,
+        TopologyName::Other => 0,
+    }
+}
+
+pub fn topology_number(name: TopologyName) -> u32
+    ensures { λ r. ⌜ r ≡ topologyNumber name ⌝ }
+{
+    match name {
+        TopologyName::Socket(n) => n,
+        TopologyName::Cluster(n) => n,
+        TopologyName::Core(n) => n,
+        TopologyName::Thread(n) => n,
+        TopologyName::Other => 0,
+    }
+}
+
+// Whether a name may stand right under the map.
+fn allowed_in_map(name: TopologyName) -> bool
+    ensures { λ r. ⌜ r ≡ allowedInMap name ⌝ }
+{
+    match name {
+        TopologyName::Socket(_) => true,
+        TopologyName::Cluster(_) => true,
+        TopologyName::Core(_) => false,
+        TopologyName::Thread(_) => false,
+        TopologyName::Other => false,
+    }
+}
+
+// Whether a name may stand right under another.
+fn allowed_under(parent: TopologyName, name: TopologyName) -> bool
+    ensures { λ r. ⌜ r ≡ allowedUnder parent name ⌝ }
+{
+    match parent {
+        TopologyName::Socket(_) => match name {
+            TopologyName::Socket(_) => false,
+            TopologyName::Cluster(_) => true,
+            TopologyName::Core(_) => false,
+            TopologyName::Thread(_) => false,
+            TopologyName::Other => false,
+        },
+        TopologyName::Cluster(_) => match name {
+            TopologyName::Socket(_) => false,
+            TopologyName::Cluster(_) => true,
+            TopologyName::Core(_) => true,
+            TopologyName::Thread(_) => false,
+            TopologyName::Other => false,
+        },
+        TopologyName::Core(_) => match name {
+            TopologyName::Socket(_) => false,
+            TopologyName::Cluster(_) => false,
+            TopologyName::Core(_) => false,
+            TopologyName::Thread(_) => true,
+            TopologyName::Other => false,
+        },
+        TopologyName::Thread(_) => false,
+        TopologyName::Other => false,
+    }
+}
+
+// Whether a name may stand right under record p, in a map.
+fn is_allowed(nodes: &[u32], pool: &[u8], map: usize, p: usize, name: TopologyName) -> bool
+    ensures { λ r. ⌜ r ≡ cond (eqb p map) (allowedInMap name) (allowedUnder (topologyName (now (nodes .entry)) (now (pool .entry)) p) name) ⌝ }
+{
+    if p == map {
+        return allowed_in_map(name);
+    }
+    allowed_under(topology_name(nodes, pool, p), name)
+}
+
+// 20 where a name may not stand under record p, whose first child is record p + 1, or has another kind than that child; or 0.
+pub fn kind_fault(nodes: &[u32], pool: &[u8], map: usize, p: usize, name: TopologyName) -> u32
+    requires { ⌜ p < nodeCount (now nodes) ⌝ }
+    ensures { λ r. ⌜ r ≡ kindFault (now (nodes .entry)) (now (pool .entry)) map p name ⌝ }
+{
+    if is_allowed(nodes, pool, map, p, name) {
+        let first = topology_name(nodes, pool, p + 1);
+        if kind_number(name) == kind_number(first) {
+            return 0;
+        }
+    }
+    20
+}

@@ -1,0 +1,79 @@
+// Leaves of the map and the cpus that they name: rule 24.
+use crate::RecordCheck;
+use crate::shape::has_child;
+use cpus::Cell;
+use cpus::cell_of;
+use names::TopologyName;
+ghost use mathlib.Core.Path.{_≡_};
+ghost use lib.Dec.{eqb};
+ghost use lib.ListN.{length, getD};
+ghost use Rattle.laws.specs.Search.{lowest};
+ghost use Rattle.topology.specs.Check.{indexOf, leafCpu, broken, leafCheck, isLeafName};
+
+// Whether the name of record i is a leaf's: a thread's, or that of a core without children.
+pub fn is_leaf_name(nodes: &[u32], i: usize, name: TopologyName) -> bool
+    ensures { λ r. ⌜ r ≡ isLeafName (now (nodes .entry)) i name ⌝ }
+{
+    match name {
+        TopologyName::Socket(_) => false,
+        TopologyName::Cluster(_) => false,
+        TopologyName::Core(_) => !has_child(nodes, i),
+        TopologyName::Thread(_) => true,
+        TopologyName::Other => false,
+    }
+}
+
+// The lowest index of a phandle, or the number of phandles where it is none of them.
+fn index_of_word(phandles: &[u64], word: u64) -> usize
+    ensures { λ r. ⌜ r ≡ lowest (λ k. eqb (getD (now (phandles .entry)) k 0) word) (length (now (phandles .entry))) ⌝ }
+{
+    let mut k: usize = 0;
+    while k < phandles.len() {
+        if phandles[k] == word {
+            return k;
+        }
+        k += 1;
+    }
+    k
+}
+
+fn index_of(phandles: &[u64], cell: Cell) -> usize
+    ensures { λ r. ⌜ r ≡ indexOf (now (phandles .entry)) cell ⌝ }
+{
+    match cell {
+        Cell::Is(word) => index_of_word(phandles, word as u64),
+        Cell::Not => phandles.len(),
+    }
+}
+
+// The index of the phandle that record i's `cpu` holds, or the number of phandles where it holds none.
+pub fn leaf_cpu(props: &[u32], pool: &[u8], phandles: &[u64], i: usize) -> usize
+    ensures { λ r. ⌜ r ≡ leafCpu (now (props .entry)) (now (pool .entry)) (now (phandles .entry)) i ⌝ }
+{
+    index_of(phandles, cell_of(props, pool, i, b"cpu"))
+}
+
+// No leaf: the number that a record breaks, or 0.
+pub fn no_leaf(number: u32, none: usize) -> RecordCheck
+    ensures { λ r. ⌜ r ≡ broken number none ⌝ }
+{
+    RecordCheck {
+        number,
+        leaf: false,
+        cpu: none,
+    }
+}
+
+// A leaf that names cpu k, or rule 24 where there is no such cpu.
+pub fn leaf_check(none: usize, k: usize) -> RecordCheck
+    ensures { λ r. ⌜ r ≡ leafCheck none k ⌝ }
+{
+    if k < none {
+        return RecordCheck {
+            number: 0,
+            leaf: true,
+            cpu: k,
+        };
+    }
+    no_leaf(24, none)
+}

@@ -1,0 +1,99 @@
+// What a record's ancestors say: its socket and its clusters, outermost first.
+use crate::ClusterPath;
+use names::TopologyName;
+use names::name_of;
+use tables::Parent;
+use tables::node_word;
+use tables::parent_of;
+ghost use mathlib.Core.Path.{_≡_};
+ghost use Rattle.topology.specs.Path.{topologyName, noClusters, extend, clusterStep, clusterPath, socketStep, socketNumber};
+
+// What record i's name says. Other where it is no record or its name leaves the pool.
+pub fn topology_name(nodes: &[u32], pool: &[u8], i: usize) -> TopologyName
+    ensures { λ r. ⌜ r ≡ topologyName (now (nodes .entry)) (now (pool .entry)) i ⌝ }
+{
+    if nodes.len() / 3 <= i {
+        return TopologyName::Other;
+    }
+    let offset = node_word(nodes, i, 1);
+    let len = node_word(nodes, i, 2);
+    if pool.len() < offset {
+        return TopologyName::Other;
+    }
+    if pool.len() - offset < len {
+        return TopologyName::Other;
+    }
+    let end = offset + len;
+    name_of(&pool[offset..end])
+}
+
+impl ClusterPath {
+    pub fn empty() -> Self
+        ensures { λ r. ⌜ r ≡ noClusters ⌝ }
+    {
+        Self {
+            numbers: [0xFFFFFFFF; 4],
+            depth: 0,
+        }
+    }
+
+    // The path with one cluster more. A full path stays as it is.
+    pub fn extended(mut self, number: u32) -> Self
+        ensures { λ r. ⌜ r ≡ extend self number ⌝ }
+    {
+        let depth = self.depth;
+        if depth < 4 {
+            self.numbers[depth] = number;
+            self.depth = depth + 1;
+        }
+        self
+    }
+}
+
+// A record's path, from its name and its parent's path.
+fn cluster_step(name: TopologyName, above: ClusterPath) -> ClusterPath
+    ensures { λ r. ⌜ r ≡ clusterStep name above ⌝ }
+{
+    match name {
+        TopologyName::Socket(_) => above,
+        TopologyName::Cluster(n) => above.extended(n),
+        TopologyName::Core(_) => above,
+        TopologyName::Thread(_) => above,
+        TopologyName::Other => above,
+    }
+}
+
+// The clusters among record i and its ancestors.
+pub fn cluster_path(nodes: &[u32], pool: &[u8], i: usize) -> ClusterPath
+    ensures { λ r. ⌜ r ≡ clusterPath (now (nodes .entry)) (now (pool .entry)) i ⌝ }
+{
+    let parent = parent_of(nodes, i);
+    let Parent::Is(p) = parent else {
+        return ClusterPath::empty();
+    };
+    cluster_step(topology_name(nodes, pool, i), cluster_path(nodes, pool, p))
+}
+
+// A record's socket, from its name and its parent's socket.
+fn socket_step(name: TopologyName, above: u32) -> u32
+    ensures { λ r. ⌜ r ≡ socketStep name above ⌝ }
+{
+    match name {
+        TopologyName::Socket(n) => n,
+        TopologyName::Cluster(_) => above,
+        TopologyName::Core(_) => above,
+        TopologyName::Thread(_) => above,
+        TopologyName::Other => above,
+    }
+}
+
+// The number of the socket among record i and its ancestors, or 0xFFFFFFFF.
+pub fn socket_number(nodes: &[u32], pool: &[u8], i: usize) -> u32
+    ensures { λ r. ⌜ r ≡ socketNumber (now (nodes .entry)) (now (pool .entry)) i ⌝ }
+{
+    let parent = parent_of(nodes, i);
+    let Parent::Is(p) = parent else {
+        return 0xFFFFFFFF;
+    };
+    socket_step(topology_name(nodes, pool, i), socket_number(nodes, pool, p))
+}

@@ -1,0 +1,70 @@
+// The leaves of the map: rules 18 to 26.
+use crate::TreeScan;
+use crate::gather::gather;
+use crate::gather::is_among;
+use crate::gather::refuse;
+use cpus::is_cpu;
+use laws::Fault;
+ghost use mathlib.Core.Path.{_≡_};
+ghost use Rattle.laws.specs.Fault.{firstFault};
+ghost use Rattle.tables.specs.Board.{nodeCount};
+ghost use Rattle.topology.specs.Scan.{tree, treeScan};
+ghost use Rattle.topology.specs.Pass.{unnamedFault};
+
+// The limit of rule 10.
+const MAX_CPUS: usize = 256;
+
+// The lowest cpu record that breaks rule 26: its index among the cpu records is none of those that the leaves name.
+fn first_unmapped(nodes: &[u32], pool: &[u8], cpus: &[usize]) -> Fault
+    ensures { λ r.
+        let table = now (nodes .entry) in
+        ⌜ r ≡ firstFault (unnamedFault table (now (pool .entry)) (now (cpus .entry))) (nodeCount table) ⌝ }
+{
+    let n = nodes.len() / 3;
+    let mut index: usize = 0;
+    let mut i: usize = 0;
+    while i < n {
+        if !is_cpu(nodes, pool, i) {
+            i += 1;
+            continue;
+        }
+        if !is_among(cpus, index) {
+            return Fault {
+                number: 26,
+                place: i,
+            };
+        }
+        index += 1;
+        i += 1;
+    }
+    Fault {
+        number: 0,
+        place: 0,
+    }
+}
+
+// The leaves, or the first of rules 18 to 26 that is broken; 10 where there are too many phandles.
+pub fn read_tree(
+    nodes: &[u32],
+    props: &[u32],
+    pool: &[u8],
+    map: usize,
+    phandles: &[u64],
+) -> TreeScan
+    ensures { λ r. ⌜ r ≡ treeScan (tree (now (nodes .entry)) (now (props .entry)) (now (pool .entry)) map (now (phandles .entry))) ⌝ }
+{
+    if MAX_CPUS < phandles.len() {
+        return refuse(10, 0);
+    }
+    let scan = gather(nodes, props, pool, map, phandles);
+    if scan.number != 0 {
+        return scan;
+    }
+    let cpus = scan.leaves.cpus;
+    let count = scan.leaves.count;
+    let fault = first_unmapped(nodes, pool, &cpus[..count]);
+    if fault.number != 0 {
+        return refuse(fault.number, fault.place);
+    }
+    scan
+}

@@ -1,0 +1,223 @@
+/*
+ * sunderwath.h - read the processor topology of an ARM board
+ *
+ * The library takes the /cpus subtree of a devicetree as plain tables, checks
+ * it against the cpu and cpu-map bindings, and writes one row for each
+ * processor: its place in the map, its MPIDR and its slot in a collision-free
+ * hash of all MPIDRs.
+ *
+ * WHAT A CALLER OWES, for every function below
+ *
+ *  - Each pointer is followed by a count of ELEMENTS (words of 32 bits, MPIDRs
+ *    of 64 bits, or bytes of the pool), never a size in bytes.
+ *  - Each pointer is valid for its count of elements, aligned for its type and
+ *    not NULL, even where the count is 0.
+ *  - The parts that are written (rows, answer) overlap no other part that is
+ *    lent to the same call. Parts that are only read may overlap each other.
+ *  - No other thread changes a lent part during the call. The library keeps no
+ *    state and no pointer after it returns.
+ *
+ * WHAT IS WRITTEN
+ *
+ *  - The number told is returned, and is word 0 of the answer too.
+ *  - With fewer than SUNDERWATH_ANSWER_WORDS words of answer, nothing is
+ *    written at all and SUNDERWATH_ANSWER_SPACE is returned, before any other
+ *    check.
+ *  - Otherwise exactly the first ten words of the answer are written.
+ *  - Rows are written on acceptance only: 12 words for each processor from
+ *    word 0. Everything behind the last row stays as it is. A refusal changes
+ *    no word of the rows.
+ */
+#ifndef SUNDERWATH_H
+#define SUNDERWATH_H
+
+#include <stddef.h>
+#include <stdint.h>
+
+#ifdef __cplusplus
+extern "C" {
+#endif
+
+/* Words of an answer. */
+#define SUNDERWATH_ANSWER_WORDS 10
+
+/* Positions of the words of an answer. In a refusal all words but the first
+ * two are 0. */
+#define SUNDERWATH_ANSWER_NUMBER 0    /* 0 or the number of the rule broken */
+#define SUNDERWATH_ANSWER_PLACE 1     /* the record that breaks it, or 0 */
+#define SUNDERWATH_ANSWER_COUNT 2     /* processors; for list_slot the slot */
+#define SUNDERWATH_ANSWER_MASK_LOW 3  /* mask, bits 31..0 */
+#define SUNDERWATH_ANSWER_MASK_HIGH 4 /* mask, bits 63..32 */
+#define SUNDERWATH_ANSWER_SHIFTS 5    /* four shifts, affinity level 0 first */
+#define SUNDERWATH_ANSWER_BITS 9      /* bits of a slot */
+
+/* Words of a row. */
+#define SUNDERWATH_ROW_WORDS 12
+
+/* Positions of the words of a row. */
+#define SUNDERWATH_ROW_LEAF 0        /* node record of the thread or core */
+#define SUNDERWATH_ROW_CPU 1         /* node record of its cpu node */
+#define SUNDERWATH_ROW_MPIDR_UPPER 2 /* upper cell of reg, 0 for one cell */
+#define SUNDERWATH_ROW_MPIDR_LOWER 3 /* lower cell of reg */
+#define SUNDERWATH_ROW_SOCKET 4      /* socket number or GAP */
+#define SUNDERWATH_ROW_CLUSTERS 5    /* four cluster numbers, outermost first */
+#define SUNDERWATH_ROW_CORE 9        /* core number */
+#define SUNDERWATH_ROW_THREAD 10     /* thread number or GAP */
+#define SUNDERWATH_ROW_SLOT 11       /* slot; 0xFFFFFFFF is a slot here */
+
+/* A number that the map does not have (words 4 to 8 and 10 of a row). */
+#define SUNDERWATH_GAP 0xFFFFFFFFu
+
+/* Words of a node record: parent, name offset, name length. */
+#define SUNDERWATH_NODE_WORDS 3
+
+/* Words of a property record: node, name offset, name length, value offset,
+ * value length. */
+#define SUNDERWATH_PROPERTY_WORDS 5
+
+/* Parent word of node record 0; also "no property" of find_property. */
+#define SUNDERWATH_NONE 0xFFFFFFFFu
+
+/* Limits. */
+#define SUNDERWATH_MAX_NODES 1024
+#define SUNDERWATH_MAX_PROPERTIES 4096
+#define SUNDERWATH_MAX_POOL 65536
+#define SUNDERWATH_MAX_CPUS 256
+
+/*
+ * The numbers, in the order of checking. Each comment says what is wrong and,
+ * after the semicolon, what the place of the answer is. 14 is not used.
+ */
+enum sunderwath_number {
+    SUNDERWATH_ACCEPTED = 0,
+
+    /* ---- the tables ---- */
+
+    /* width not 32 or 64; 0 */
+    SUNDERWATH_BOARD_WIDTH = 1,
+    /* node words not whole records, or not 1 to 1,024 of them; 0 */
+    SUNDERWATH_NODE_TABLE_SIZE = 2,
+    /* property words not whole records, or too many; 0 */
+    SUNDERWATH_PROPERTY_TABLE_SIZE = 3,
+    /* pool too long; 0 */
+    SUNDERWATH_POOL_SIZE = 4,
+    /* node name not 1 to 64 bytes of the pool; record */
+    SUNDERWATH_NODE_NAME_RANGE = 5,
+    /* parent breaks depth-first order; record */
+    SUNDERWATH_NODE_PARENT_ORDER = 6,
+    /* node, name or value of a property out of range; property */
+    SUNDERWATH_PROPERTY_RANGE = 7,
+    /* property name repeated on its node; property */
+    SUNDERWATH_DUPLICATE_PROPERTY = 8,
+
+    /* ---- the cpus node and its cpu nodes ---- */
+
+    /* name or cell counts of record 0; 0 */
+    SUNDERWATH_CPUS_NODE = 9,
+    /* not 1 to 256 cpu nodes; 0 */
+    SUNDERWATH_CPU_COUNT = 10,
+    /* device_type is not "cpu"; record */
+    SUNDERWATH_CPU_DEVICE_TYPE = 11,
+    /* reg missing, wrong length or bits outside the affinity bits; record */
+    SUNDERWATH_CPU_REG = 12,
+    /* reg of an earlier cpu node; record */
+    SUNDERWATH_DUPLICATE_CPU_REG = 13,
+
+    /* ---- the map ---- */
+
+    /* no cpu-map; 0 */
+    SUNDERWATH_CPU_MAP_MISSING = 15,
+    /* another node named cpu-map; record */
+    SUNDERWATH_CPU_MAP_DUPLICATE = 16,
+    /* phandle missing, not usable or taken; record */
+    SUNDERWATH_CPU_PHANDLE = 17,
+    /* topology name outside the map; record */
+    SUNDERWATH_TOPOLOGY_OUTSIDE_MAP = 18,
+    /* no topology name below the map; record */
+    SUNDERWATH_CPU_MAP_NAME = 19,
+    /* kind not allowed under its parent; record */
+    SUNDERWATH_CPU_MAP_KIND = 20,
+    /* number is not the count of earlier siblings; record */
+    SUNDERWATH_CPU_MAP_ORDER = 21,
+    /* more than four nested clusters; record */
+    SUNDERWATH_CPU_MAP_DEPTH = 22,
+    /* map, socket or cluster without children; record */
+    SUNDERWATH_CPU_MAP_EMPTY = 23,
+    /* leaf does not name a cpu node; record */
+    SUNDERWATH_CPU_MAP_PHANDLE = 24,
+    /* leaf names a cpu of an earlier leaf; record */
+    SUNDERWATH_CPU_MAP_CPU_REPEATED = 25,
+    /* cpu node named by no leaf; record */
+    SUNDERWATH_CPU_UNMAPPED = 26,
+    /* row buffer too short; 0 */
+    SUNDERWATH_ROW_SPACE = 27,
+
+    /* ---- lists of MPIDRs ---- */
+
+    /* empty or more than 256; 0 */
+    SUNDERWATH_LIST_LENGTH = 28,
+    /* bit outside 39..32 and 23..0; index */
+    SUNDERWATH_LIST_MPIDR = 29,
+    /* asked MPIDR is not in the list; 0 */
+    SUNDERWATH_LIST_UNKNOWN = 30,
+
+    /* ---- the call ---- */
+
+    /* answer of fewer than ten words; nothing written */
+    SUNDERWATH_ANSWER_SPACE = 49
+};
+
+/*
+ * The hash of a list of 1 to 256 MPIDRs, repeats allowed: mask, shifts and
+ * bits. Tells 28 or 29. Word 2 of the answer is 0.
+ */
+uint32_t sunderwath_list_hash(const uint64_t *list, size_t n,
+                              uint32_t *answer, size_t a);
+
+/*
+ * The slot of one MPIDR in the hash of a list. Tells 28, 29 or 30. Word 2 of
+ * the answer is the slot, and words 3 to 9 are 0. An MPIDR that is not in the
+ * list has no slot, as its bits could fall on the slot of a listed one.
+ */
+uint32_t sunderwath_list_slot(uint64_t mpidr, const uint64_t *list, size_t n,
+                              uint32_t *answer, size_t a);
+
+/*
+ * Reads a board. `width` is 32 (ARM v7 or later) or 64 (ARM v8). Node record 0
+ * is the cpus node; records stand depth first. Tells 1 to 27; on acceptance
+ * the answer's count is the number of processors, and each has its row, in the
+ * order of the map. Rows need 12 words for each cpu node.
+ */
+uint32_t sunderwath_read_tables(uint32_t width,
+                                const uint32_t *nodes, size_t n,
+                                const uint32_t *props, size_t p,
+                                const uint8_t *pool, size_t bytes,
+                                uint32_t *rows, size_t words,
+                                uint32_t *answer, size_t a);
+
+/*
+ * FOR TESTS ONLY. Programs should call sunderwath_read_tables, which does both
+ * of these; they may change or go.
+ */
+
+/* Rules 1 to 8 alone. Words 2 to 9 of the answer are 0. */
+uint32_t sunderwath_check_tables(uint32_t width,
+                                 const uint32_t *nodes, size_t n,
+                                 const uint32_t *props, size_t p,
+                                 const uint8_t *pool, size_t bytes,
+                                 uint32_t *answer, size_t a);
+
+/*
+ * The record number of the lowest property of `node` with that name whose name
+ * lies inside the pool, or SUNDERWATH_NONE.
+ */
+uint32_t sunderwath_find_property(const uint32_t *props, size_t p,
+                                  const uint8_t *pool, size_t bytes,
+                                  uint32_t node,
+                                  const uint8_t *name, size_t name_len);
+
+#ifdef __cplusplus
+}
+#endif
+
+#endif /* SUNDERWATH_H */

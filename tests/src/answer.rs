@@ -1,0 +1,58 @@
+//! The ten words that every call of the library answers with.
+
+/// Words in an answer.
+pub const ANSWER_WORDS: usize = 10;
+
+/// Told when the lent answer has fewer than ten words.
+pub const SHORT_ANSWER: u32 = 49;
+
+#[derive(Clone, Copy, Debug, Default, PartialEq, Eq)]
+pub struct Answer {
+    pub number: u32,
+    pub place: u32,
+    /// Processors of a board, or the slot that was asked for.
+    pub count: u32,
+    pub mask: u64,
+    pub shifts: [u32; 4],
+    pub bits: u32,
+}
+
+impl Answer {
+    /// A refusal holds number and place and nothing else.
+    pub fn refusal(number: u32, place: usize) -> Answer {
+        Answer {
+            number,
+            place: place as u32,
+            ..Answer::default()
+        }
+    }
+
+    pub fn words(&self) -> [u32; ANSWER_WORDS] {
+        let [a, b, c, d] = self.shifts;
+        let low = self.mask as u32;
+        let high = (self.mask >> 32) as u32;
+        [
+            self.number,
+            self.place,
+            self.count,
+            low,
+            high,
+            a,
+            b,
+            c,
+            d,
+            self.bits,
+        ]
+    }
+
+    pub fn from_words(words: &[u32; ANSWER_WORDS]) -> Answer {
+        Answer {
+            number: words[0],
+            place: words[1],
+            count: words[2],
+            mask: u64::from(words[4]) << 32 | u64::from(words[3]),
+            shifts: [words[5], words[6], words[7], words[8]],
+            bits: words[9],
+        }
+    }
+}

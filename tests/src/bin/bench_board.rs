@@ -1,0 +1,128 @@
+//! Time of a whole board: the library, the fast version and, with the feature
+//! `fdt`, a reader over libfdt that starts from a blob.
+
+use std::hint::black_box;
+use sunderwath_tests::answer::ANSWER_WORDS;
+use sunderwath_tests::build::shapes::{fill_up, regular_board};
+use sunderwath_tests::build::{Board, Node, FULL_ROOM};
+use sunderwath_tests::timing::best_ns;
+use sunderwath_tests::{fast, ffi};
+
+#[cfg(feature = "fdt")]
+mod fdt {
+    use super::*;
+    use sunderwath_tests::build::blob;
+
+    extern "C" {
+        fn bench_fdt_read(
+            blob: *const u8,
+            through_libfdt: i32,
+            rows: *mut u32,
+            words: usize,
+            answer: *mut u32,
+        ) -> i32;
+    }
+
+    /// Time of the reader over libfdt, checked against the expected rows.
+    pub fn measure(root: &Node, calls: usize, by_libfdt: bool, expected: &[u32]) -> Option<f64> {
+        let blob = blob::write(root);
+        let mut rows = vec![0; FULL_ROOM];
+        let mut answer = [0; ANSWER_WORDS];
+        let mut failed = 0;
+        let time = best_ns(7, calls, || {
+            // SAFETY: the blob is whole, and both parts have the words given.
+            failed |= unsafe {
+                bench_fdt_read(
+                    black_box(blob.as_ptr()),
+                    i32::from(by_libfdt),
+                    rows.as_mut_ptr(),
+                    rows.len(),
+                    answer.as_mut_ptr(),
+                )
+            };
+        });
+        assert_eq!(failed, 0, "the reader over libfdt reads the board");
+        assert_eq!(rows, expected, "rows of the reader over libfdt");
+        Some(time)
+    }
+}
+
+#[cfg(not(feature = "fdt"))]
+mod fdt {
+    use super::Node;
+
+    pub fn measure(_: &Node, _: usize, _: bool, _: &[u32]) -> Option<f64> {
+        None
+    }
+}
+
+/// Time of the library, with the rows that it writes.
+fn measure_library(board: &Board, calls: usize) -> (f64, Vec<u32>) {
+    let mut rows = vec![0; FULL_ROOM];
+    let mut answer = [0; ANSWER_WORDS];
+    let time = best_ns(7, calls, || {
+        ffi::read_tables_into(
+            board.width,
+            black_box(&board.nodes),
+            black_box(&board.props),
+            black_box(&board.pool),
+            &mut rows,
+            black_box(&mut answer),
+        );
+    });
+    assert_eq!(answer[0], 0, "the board is accepted");
+    (time, rows)
+}
+
+fn measure_fast(board: &Board, calls: usize, expected: &[u32]) -> f64 {
+    let mut rows = vec![0; FULL_ROOM];
+    let time = best_ns(7, calls, || {
+        black_box(fast::read_tables(
+            board.width,
+            black_box(&board.nodes),
+            black_box(&board.props),
+            black_box(&board.pool),
+            &mut rows,
+        ));
+    });
+    assert_eq!(rows, expected, "rows of the fast version");
+    time
+}
+
+/// Microseconds, and how many times as long the library takes.
+fn column(ours: f64, peer: Option<f64>) -> String {
+    match peer {
+        Some(peer) => format!("{:>12.2} {:>8.2}", peer / 1000.0, ours / peer),
+        None => format!("{:>12} {:>8}", "-", "-"),
+    }
+}
+
+fn measure(name: &str, root: &Node, calls: usize) {
+    let board = Board::of(64, root);
+    let (ours, rows) = measure_library(&board, calls);
+    let peer = measure_fast(&board, calls, &rows);
+    let table = fdt::measure(root, calls, false, &rows);
+    let by_phandle = fdt::measure(root, calls, true, &rows);
+    println!(
+        "{name:<22} {:>12.2} {} {} {}",
+        ours / 1000.0,
+        column(ours, Some(peer)),
+        column(ours, table),
+        column(ours, by_phandle)
+    );
+}
+
+fn main() {
+    println!("whole board, microseconds, best of 7; each ratio is library / peer");
+    println!("libfdt: from a blob, few checks, own table of phandles or libfdt's search");
+    println!(
+        "{:<22} {:>12} {:>12} {:>8} {:>12} {:>8} {:>12} {:>8}",
+        "board", "library", "fast", "ratio", "libfdt", "ratio", "by search", "ratio"
+    );
+    for (cpus, calls) in [(4, 2000), (16, 500), (64, 50), (256, 5)] {
+        measure(&format!("{cpus} cpus"), &regular_board(cpus), calls);
+    }
+    let mut worst = regular_board(256);
+    fill_up(&mut worst, 1024, 4096);
+    measure("256 cpus, full tables", &worst, 2);
+}

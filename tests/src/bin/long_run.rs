@@ -1,0 +1,91 @@
+//! Compares the readers on a million boards and more, or runs one again.
+//!
+//! long_run [--boards N] [--seed S]
+//! long_run --replay FILE
+
+use std::process::exit;
+use std::time::Instant;
+use sunderwath_tests::build::mix::{any_board, large_board};
+use sunderwath_tests::build::text;
+use sunderwath_tests::compare::{compare, library, second_tables};
+use sunderwath_tests::rng::Rng;
+use sunderwath_tests::second;
+
+struct Options {
+    boards: u64,
+    seed: u64,
+    replay: Option<String>,
+}
+
+fn number(text: &str) -> Option<u64> {
+    match text.strip_prefix("0x") {
+        Some(hex) => u64::from_str_radix(hex, 16).ok(),
+        None => text.parse().ok(),
+    }
+}
+
+fn options() -> Option<Options> {
+    let mut options = Options {
+        boards: 1_000_000,
+        seed: 0x10_4652,
+        replay: None,
+    };
+    let mut arguments = std::env::args().skip(1);
+    while let Some(argument) = arguments.next() {
+        let value = arguments.next()?;
+        match argument.as_str() {
+            "--boards" => options.boards = number(&value)?,
+            "--seed" => options.seed = number(&value)?,
+            "--replay" => options.replay = Some(value),
+            _ => return None,
+        }
+    }
+    Some(options)
+}
+
+fn replay(file: &str) -> Result<(), String> {
+    let content = std::fs::read_to_string(file).map_err(|e| format!("{file}: {e}"))?;
+    let board = text::read(&content).map_err(|e| format!("{file}: {e}"))?;
+    println!("library       {:?}", library(&board).0);
+    println!("second reader {:?}", second::read(&second_tables(&board)).0);
+    compare(&board).map(|number| println!("the readers agree on {number}"))
+}
+
+fn run(options: &Options) -> Result<(), String> {
+    let mut rng = Rng::new(options.seed);
+    let mut counts = [0u64; 28];
+    let start = Instant::now();
+    println!("{} boards, seed {:#x}", options.boards, options.seed);
+    for at in 0..options.boards {
+        let board = if at % 2000 == 1999 {
+            large_board(&mut rng)
+        } else {
+            any_board(&mut rng)
+        };
+        let told = compare(&board).map_err(|report| format!("board {at}:\n{report}"))?;
+        counts[told as usize] += 1;
+        if (at + 1) % 250_000 == 0 {
+            println!("{} boards after {:?}", at + 1, start.elapsed());
+        }
+    }
+    for (number, count) in counts.iter().enumerate() {
+        println!("number {number:>2}: {count}");
+    }
+    println!("no disagreement on {} boards", options.boards);
+    Ok(())
+}
+
+fn main() {
+    let Some(options) = options() else {
+        eprintln!("usage: long_run [--boards N] [--seed S] | --replay FILE");
+        exit(2);
+    };
+    let outcome = match &options.replay {
+        Some(file) => replay(file),
+        None => run(&options),
+    };
+    if let Err(report) = outcome {
+        eprintln!("{report}");
+        exit(1);
+    }
+}

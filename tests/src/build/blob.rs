@@ -1,0 +1,90 @@
+//! Writes a tree as a flattened devicetree (version 17), for readers of blobs.
+
+use super::Node;
+
+const MAGIC: u32 = 0xD00D_FEED;
+const BEGIN_NODE: u32 = 1;
+const END_NODE: u32 = 2;
+const PROP: u32 = 3;
+const END: u32 = 9;
+const HEADER_BYTES: usize = 40;
+const RESERVE_BYTES: usize = 16;
+
+struct Writer {
+    structure: Vec<u8>,
+    strings: Vec<u8>,
+    names: Vec<(Vec<u8>, u32)>,
+}
+
+impl Writer {
+    fn word(&mut self, word: u32) {
+        self.structure.extend(word.to_be_bytes());
+    }
+
+    /// Bytes, then zeros up to the next cell.
+    fn padded(&mut self, bytes: &[u8]) {
+        self.structure.extend(bytes);
+        let length = self.structure.len().next_multiple_of(4);
+        self.structure.resize(length, 0);
+    }
+
+    fn string(&mut self, name: &[u8]) -> u32 {
+        if let Some((_, offset)) = self.names.iter().find(|(n, _)| n == name) {
+            return *offset;
+        }
+        let offset = self.strings.len() as u32;
+        self.strings.extend(name);
+        self.strings.push(0);
+        self.names.push((name.to_vec(), offset));
+        offset
+    }
+
+    fn node(&mut self, node: &Node) {
+        self.word(BEGIN_NODE);
+        let mut name = node.name.clone();
+        name.push(0);
+        self.padded(&name);
+        for (name, value) in &node.props {
+            let offset = self.string(name);
+            self.word(PROP);
+            self.word(value.len() as u32);
+            self.word(offset);
+            self.padded(value);
+        }
+        for child in &node.children {
+            self.node(child);
+        }
+        self.word(END_NODE);
+    }
+}
+
+/// A blob whose root has the given cpus node as its only child.
+pub fn write(cpus: &Node) -> Vec<u8> {
+    let mut writer = Writer {
+        structure: Vec::new(),
+        strings: Vec::new(),
+        names: Vec::new(),
+    };
+    writer.node(&Node::new("").child(cpus.clone()));
+    writer.word(END);
+    let structure_at = HEADER_BYTES + RESERVE_BYTES;
+    let strings_at = structure_at + writer.structure.len();
+    let total = strings_at + writer.strings.len();
+    let header = [
+        MAGIC,
+        total as u32,
+        structure_at as u32,
+        strings_at as u32,
+        HEADER_BYTES as u32,
+        17,
+        16,
+        0,
+        writer.strings.len() as u32,
+        writer.structure.len() as u32,
+    ];
+    let mut blob: Vec<u8> = header.iter().flat_map(|w| w.to_be_bytes()).collect();
+    blob.resize(structure_at, 0);
+    blob.extend(writer.structure);
+    blob.extend(writer.strings);
+    blob
+}

@@ -1,0 +1,73 @@
+//! The mixture of boards that the gate and the long run compare.
+
+use super::damage::{garbage, spoil_tables, spoil_tree};
+use super::shapes::{fill_up, valid_board};
+use super::{Board, Node, FULL_ROOM};
+use crate::rng::Rng;
+
+/// A board of any sort: sound, damaged once or in pairs, or garbage.
+pub fn any_board(rng: &mut Rng) -> Board {
+    if rng.one_in(20) {
+        return garbage(rng);
+    }
+    let most = *rng.pick(&[1, 2, 3, 4, 6, 8, 12]);
+    let (width, mut root) = valid_board(rng, most);
+    let (in_tree, in_tables) = *rng.pick(&[
+        (0, 0),
+        (1, 0),
+        (1, 0),
+        (1, 0),
+        (2, 0),
+        (2, 0),
+        (3, 0),
+        (0, 1),
+        (0, 2),
+        (1, 1),
+    ]);
+    for _ in 0..in_tree {
+        spoil_tree(rng, &mut root);
+    }
+    let mut board = lay_out(rng, width, &root);
+    board.room = some_room(rng, &root);
+    for _ in 0..in_tables {
+        spoil_tables(rng, &mut board);
+    }
+    board
+}
+
+fn lay_out(rng: &mut Rng, width: u32, root: &Node) -> Board {
+    if rng.one_in(2) {
+        Board::of(width, root)
+    } else {
+        Board::shuffled(width, root, rng)
+    }
+}
+
+/// Mostly enough; at times around what the children of record 0 need.
+fn some_room(rng: &mut Rng, root: &Node) -> usize {
+    if rng.one_in(8) {
+        let need = 12 * (root.children.len() - root.children.len().min(1));
+        (need + rng.below(27)).saturating_sub(13)
+    } else {
+        12 * root.children.len() + rng.below(3)
+    }
+}
+
+/// A large board near the limits, damaged at times.
+pub fn large_board(rng: &mut Rng) -> Board {
+    let (width, mut root) = valid_board(rng, 256);
+    if rng.one_in(2) {
+        let records = rng.between(root.count(), root.count().max(1022) + 3);
+        let props = rng.between(root.prop_count(), root.prop_count().max(4094) + 3);
+        fill_up(&mut root, records, props);
+    }
+    if rng.one_in(2) {
+        spoil_tree(rng, &mut root);
+    }
+    let mut board = Board::of(width, &root);
+    board.room = FULL_ROOM;
+    if rng.one_in(4) {
+        spoil_tables(rng, &mut board);
+    }
+    board
+}

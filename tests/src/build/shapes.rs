@@ -1,0 +1,277 @@
+//! Generators of valid boards of all shapes.
+
+use super::worked::{cpu_node, cpus_node};
+use super::{cell, Node};
+use crate::rng::Rng;
+
+/// Nodes outside the map that break no rule.
+const OTHER_NAMES: [&str; 12] = [
+    "idle-states",
+    "l2-cache0",
+    "l3-cache",
+    "cpu0",
+    "cpu-",
+    "cpus",
+    "cpu-map0",
+    "core",
+    "core01",
+    "thread1x",
+    "socket10000",
+    "cluster-0",
+];
+
+const OTHER_PROPS: [&str; 8] = [
+    "compatible",
+    "enable-method",
+    "capacity-dmips-mhz",
+    "next-level-cache",
+    "cpu-idle-states",
+    "clocks",
+    "status",
+    "cpu0",
+];
+
+/// A board that must be accepted: its width and tree.
+pub fn valid_board(rng: &mut Rng, most_cpus: usize) -> (u32, Node) {
+    let width = if rng.one_in(2) { 32 } else { 64 };
+    let cells = if width == 64 && rng.one_in(2) { 2 } else { 1 };
+    let budget = rng.between(1, most_cpus);
+    let mut map = Node::new("cpu-map");
+    map.children = map_children(rng, budget);
+    let mut leaves = Vec::new();
+    collect_leaves(&mut map, &mut leaves);
+    let count = leaves.len();
+    let phandles = distinct_phandles(rng, count);
+    for (leaf, phandle) in leaves.into_iter().zip(&phandles) {
+        leaf.set("cpu", cell(*phandle));
+    }
+    let mut cpus = cpu_nodes(rng, cells, &phandles);
+    rng.shuffle(&mut cpus);
+    (width, assemble(rng, cells, map, cpus))
+}
+
+/// Parts of a budget, each at least 1.
+fn split(rng: &mut Rng, budget: usize, parts: usize) -> Vec<usize> {
+    let mut shares = vec![1; parts];
+    for _ in parts..budget {
+        shares[rng.below(parts)] += 1;
+    }
+    shares
+}
+
+fn numbered(
+    rng: &mut Rng,
+    kind: &str,
+    budget: usize,
+    most: usize,
+    mut fill: impl FnMut(&mut Rng, usize) -> Vec<Node>,
+) -> Vec<Node> {
+    let parts = rng.between(1, most.min(budget));
+    let shares = split(rng, budget, parts);
+    let build = |(number, share)| Node {
+        children: fill(rng, share),
+        ..Node::new(format!("{kind}{number}"))
+    };
+    shares.into_iter().enumerate().map(build).collect()
+}
+
+fn map_children(rng: &mut Rng, budget: usize) -> Vec<Node> {
+    if rng.one_in(2) {
+        return clusters(rng, budget, 1);
+    }
+    numbered(rng, "socket", budget, 4, |rng, share| {
+        clusters(rng, share, 1)
+    })
+}
+
+/// Clusters on a level from 1 to 4.
+fn clusters(rng: &mut Rng, budget: usize, level: usize) -> Vec<Node> {
+    numbered(rng, "cluster", budget, 4, |rng, share| {
+        if level < 4 && rng.one_in(2) {
+            clusters(rng, share, level + 1)
+        } else {
+            cores(rng, share)
+        }
+    })
+}
+
+/// As many cores as wanted, with and without threads side by side.
+fn cores(rng: &mut Rng, budget: usize) -> Vec<Node> {
+    let smt = rng.below(3);
+    numbered(rng, "core", budget, 64, |rng, share| {
+        let threads = share > 1 || smt == 2 || smt == 1 && rng.one_in(2);
+        let most = if threads { share } else { 0 };
+        (0..most).map(|n| Node::new(format!("thread{n}"))).collect()
+    })
+}
+
+fn collect_leaves<'a>(node: &'a mut Node, leaves: &mut Vec<&'a mut Node>) {
+    if node.children.is_empty() {
+        leaves.push(node);
+        return;
+    }
+    for child in &mut node.children {
+        collect_leaves(child, leaves);
+    }
+}
+
+fn distinct_phandles(rng: &mut Rng, count: usize) -> Vec<u32> {
+    let dense = rng.one_in(2);
+    let mut phandles: Vec<u32> = Vec::new();
+    while phandles.len() < count {
+        let next = if dense {
+            phandles.len() as u32 + 1
+        } else {
+            rng.word()
+        };
+        if next != 0 && next != u32::MAX && !phandles.contains(&next) {
+            phandles.push(next);
+        }
+    }
+    rng.shuffle(&mut phandles);
+    phandles
+}
+
+/// An MPIDR in one of several styles; `at` is a running number.
+fn some_mpidr(rng: &mut Rng, style: usize, cells: u32, at: u64) -> u64 {
+    let wide = if cells == 2 {
+        0xFF_00FF_FFFF
+    } else {
+        0xFF_FFFF
+    };
+    let mpidr = match style {
+        0 => at,
+        1 => at << 8 | 0x0F_0000,
+        2 => (at & 1) | (at >> 1 & 3) << 8 | (at >> 3 & 7) << 16 | (at >> 6) << 32,
+        3 => (at & 3) << 6 | (at >> 2 & 3) << 14 | (at >> 4 & 3) << 22 | (at >> 6) << 38,
+        _ => rng.wide(),
+    };
+    mpidr & wide
+}
+
+fn cpu_nodes(rng: &mut Rng, cells: u32, phandles: &[u32]) -> Vec<Node> {
+    let style = rng.below(5);
+    let mut mpidrs: Vec<u64> = Vec::new();
+    while mpidrs.len() < phandles.len() {
+        let mut next = some_mpidr(rng, style, cells, mpidrs.len() as u64);
+        while mpidrs.contains(&next) {
+            next = some_mpidr(rng, 4, cells, 0);
+        }
+        mpidrs.push(next);
+    }
+    let build = |(&mpidr, &phandle)| {
+        let mut cpu = cpu_node(cells, mpidr, phandle);
+        match rng.below(12) {
+            0 => cpu.name = b"cpu".to_vec(),
+            1 => cpu.name = b"cpu@".to_vec(),
+            _ => {}
+        }
+        cpu
+    };
+    mpidrs.iter().zip(phandles).map(build).collect()
+}
+
+/// Puts the map before, after or among the cpu nodes, and adds other nodes.
+fn assemble(rng: &mut Rng, cells: u32, mut map: Node, cpus: Vec<Node>) -> Node {
+    idle_cpu_properties(rng, &mut map, true);
+    let mut root = cpus_node(cells);
+    root.children = cpus;
+    let at = match rng.below(3) {
+        0 => 0,
+        1 => root.children.len(),
+        _ => rng.below(root.children.len() + 1),
+    };
+    root.children.insert(at, map);
+    if rng.one_in(2) {
+        for _ in 0..rng.below(4) {
+            let at = rng.below(root.children.len() + 1);
+            root.children.insert(at, other_node(rng, 2));
+        }
+    }
+    if rng.one_in(2) {
+        for _ in 0..rng.below(6) {
+            let record = rng.below(root.count());
+            let name = *rng.pick(&OTHER_PROPS);
+            let value: Vec<u8> = (0..rng.below(10)).map(|_| rng.byte()).collect();
+            root.at(record).set(name, value);
+        }
+    }
+    shuffle_properties(rng, &mut root);
+    root
+}
+
+/// `cpu` on nodes with children is ignored, so any value may stand there.
+fn idle_cpu_properties(rng: &mut Rng, node: &mut Node, is_map: bool) {
+    if !is_map && !node.children.is_empty() && rng.one_in(6) {
+        let value: Vec<u8> = (0..rng.below(6)).map(|_| rng.byte()).collect();
+        node.set("cpu", value);
+    }
+    for child in &mut node.children {
+        idle_cpu_properties(rng, child, false);
+    }
+}
+
+fn other_node(rng: &mut Rng, depth: usize) -> Node {
+    let mut node = Node::new(*rng.pick(&OTHER_NAMES));
+    if rng.one_in(3) {
+        node.set("phandle", cell(rng.between(1, 8) as u32));
+    }
+    if depth > 0 && rng.one_in(3) {
+        node.children.push(other_node(rng, depth - 1));
+        if rng.one_in(2) {
+            // Not a child of record 0, so it is no cpu record.
+            node.children.push(Node::new("cpu@0"));
+        }
+    }
+    node
+}
+
+fn shuffle_properties(rng: &mut Rng, node: &mut Node) {
+    rng.shuffle(&mut node.props);
+    for child in &mut node.children {
+        shuffle_properties(rng, child);
+    }
+}
+
+/// Adds other nodes and properties until the counts are reached.
+pub fn fill_up(root: &mut Node, records: usize, props: usize) {
+    let first = root.children.len();
+    let missing = records.saturating_sub(root.count());
+    for _ in 0..missing {
+        root.children.push(Node::new("x"));
+    }
+    let missing_props = props.saturating_sub(root.prop_count());
+    if missing == 0 {
+        for at in 0..missing_props {
+            root.set(&format!("p{at}"), []);
+        }
+        return;
+    }
+    for at in 0..missing_props {
+        let node = &mut root.children[first + at % missing];
+        node.set(&format!("p{}", at / missing), []);
+    }
+}
+
+/// A board with a given number of cpus in clusters of four cores, width 64.
+pub fn regular_board(cpus: usize) -> Node {
+    let mut map = Node::new("cpu-map");
+    let mut nodes = Vec::new();
+    for at in 0..cpus {
+        let (cluster, core) = (at / 4, at % 4);
+        if core == 0 {
+            map.children.push(Node::new(format!("cluster{cluster}")));
+        }
+        let phandle = at as u32 + 1;
+        let leaf = super::worked::leaf(&format!("core{core}"), phandle);
+        map.children[cluster].children.push(leaf);
+        let mpidr = (cluster << 8 | core) as u64;
+        let cpu = cpu_node(2, mpidr, phandle)
+            .with("compatible", b"arm,cortex-a53\0")
+            .with("enable-method", b"psci\0");
+        nodes.push(cpu);
+    }
+    let mut root = cpus_node(2).child(map);
+    root.children.extend(nodes);
+    root
+}

@@ -1,0 +1,10 @@
+//! Plain Rust versions of the library's jobs, written for speed, as peers in
+//! the benchmarks. They share no code with the second reader.
+
+mod board;
+mod hash;
+mod tables;
+
+pub use board::read_tables;
+pub use hash::{list_hash, list_slot};
+pub use tables::check_tables;

@@ -1,0 +1,170 @@
+//! The library's C calls, and wrappers that take slices.
+
+use crate::answer::{Answer, ANSWER_WORDS};
+
+mod raw {
+    extern "C" {
+        pub fn sunderwath_list_hash(list: *const u64, n: usize, answer: *mut u32, a: usize) -> u32;
+        pub fn sunderwath_list_slot(
+            mpidr: u64,
+            list: *const u64,
+            n: usize,
+            answer: *mut u32,
+            a: usize,
+        ) -> u32;
+        #[cfg(feature = "tables")]
+        pub fn sunderwath_check_tables(
+            width: u32,
+            nodes: *const u32,
+            n: usize,
+            props: *const u32,
+            p: usize,
+            pool: *const u8,
+            bytes: usize,
+            answer: *mut u32,
+            a: usize,
+        ) -> u32;
+        #[cfg(feature = "tables")]
+        pub fn sunderwath_find_property(
+            props: *const u32,
+            p: usize,
+            pool: *const u8,
+            bytes: usize,
+            node: u32,
+            name: *const u8,
+            name_len: usize,
+        ) -> u32;
+        #[cfg(feature = "board")]
+        pub fn sunderwath_read_tables(
+            width: u32,
+            nodes: *const u32,
+            n: usize,
+            props: *const u32,
+            p: usize,
+            pool: *const u8,
+            bytes: usize,
+            rows: *mut u32,
+            words: usize,
+            answer: *mut u32,
+            a: usize,
+        ) -> u32;
+    }
+}
+
+/// The hash of a list, into an answer of any length; gives the number back.
+pub fn list_hash_into(list: &[u64], answer: &mut [u32]) -> u32 {
+    // SAFETY: both parts are slices of the lengths given, and one is borrowed
+    // mutably, so they do not overlap. The same holds for the calls below.
+    unsafe {
+        raw::sunderwath_list_hash(list.as_ptr(), list.len(), answer.as_mut_ptr(), answer.len())
+    }
+}
+
+pub fn list_slot_into(mpidr: u64, list: &[u64], answer: &mut [u32]) -> u32 {
+    unsafe {
+        raw::sunderwath_list_slot(
+            mpidr,
+            list.as_ptr(),
+            list.len(),
+            answer.as_mut_ptr(),
+            answer.len(),
+        )
+    }
+}
+
+#[cfg(feature = "tables")]
+pub fn check_tables_into(
+    width: u32,
+    nodes: &[u32],
+    props: &[u32],
+    pool: &[u8],
+    answer: &mut [u32],
+) -> u32 {
+    unsafe {
+        raw::sunderwath_check_tables(
+            width,
+            nodes.as_ptr(),
+            nodes.len(),
+            props.as_ptr(),
+            props.len(),
+            pool.as_ptr(),
+            pool.len(),
+            answer.as_mut_ptr(),
+            answer.len(),
+        )
+    }
+}
+
+/// The lowest property of a node with a name, or 0xFFFFFFFF.
+#[cfg(feature = "tables")]
+pub fn find_property(props: &[u32], pool: &[u8], node: u32, name: &[u8]) -> u32 {
+    unsafe {
+        raw::sunderwath_find_property(
+            props.as_ptr(),
+            props.len(),
+            pool.as_ptr(),
+            pool.len(),
+            node,
+            name.as_ptr(),
+            name.len(),
+        )
+    }
+}
+
+#[cfg(feature = "board")]
+pub fn read_tables_into(
+    width: u32,
+    nodes: &[u32],
+    props: &[u32],
+    pool: &[u8],
+    rows: &mut [u32],
+    answer: &mut [u32],
+) -> u32 {
+    unsafe {
+        raw::sunderwath_read_tables(
+            width,
+            nodes.as_ptr(),
+            nodes.len(),
+            props.as_ptr(),
+            props.len(),
+            pool.as_ptr(),
+            pool.len(),
+            rows.as_mut_ptr(),
+            rows.len(),
+            answer.as_mut_ptr(),
+            answer.len(),
+        )
+    }
+}
+
+/// Runs a call with an answer of ten words and checks the number given back.
+fn answered(call: impl FnOnce(&mut [u32]) -> u32) -> Answer {
+    let mut words = [0xA5A5_A5A5; ANSWER_WORDS];
+    let number = call(&mut words);
+    assert_eq!(number, words[0], "number given back and number written");
+    Answer::from_words(&words)
+}
+
+pub fn list_hash(list: &[u64]) -> Answer {
+    answered(|answer| list_hash_into(list, answer))
+}
+
+pub fn list_slot(mpidr: u64, list: &[u64]) -> Answer {
+    answered(|answer| list_slot_into(mpidr, list, answer))
+}
+
+#[cfg(feature = "tables")]
+pub fn check_tables(width: u32, nodes: &[u32], props: &[u32], pool: &[u8]) -> Answer {
+    answered(|answer| check_tables_into(width, nodes, props, pool, answer))
+}
+
+#[cfg(feature = "board")]
+pub fn read_tables(
+    width: u32,
+    nodes: &[u32],
+    props: &[u32],
+    pool: &[u8],
+    rows: &mut [u32],
+) -> Answer {
+    answered(|answer| read_tables_into(width, nodes, props, pool, rows, answer))
+}

@@ -1,0 +1,11 @@
+//! An independent second reader of board tables and what is needed to compare
+//! it with the library: calls, generators, and fast versions for benchmarks.
+
+pub mod answer;
+pub mod build;
+pub mod compare;
+pub mod fast;
+pub mod ffi;
+pub mod rng;
+pub mod second;
+pub mod timing;

@@ -1,0 +1,757 @@
+//! read_tables against the second reader.
+
+use sunderwath_tests::answer::{Answer, ANSWER_WORDS, SHORT_ANSWER};
+use sunderwath_tests::build::mix::{any_board, large_board};
+use sunderwath_tests::build::shapes::{fill_up, regular_board, valid_board};
+use sunderwath_tests::build::small::{maps_in_order, maps_with_choices};
+use sunderwath_tests::build::worked::{self, cpu_node, cpus_node, group, leaf};
+use sunderwath_tests::build::{cell, text, Board, Node};
+use sunderwath_tests::compare::{compare, library};
+use sunderwath_tests::rng::Rng;
+use sunderwath_tests::{ffi, second};
+
+const GAP: u32 = u32::MAX;
+const GUARD: usize = 16;
+
+/// Numbers 1 to 27 without 14.
+fn numbers() -> impl Iterator<Item = usize> {
+    (1..=27).filter(|&number| number != 14)
+}
+
+/// Compares all readers and gives the answer and the rows of the library.
+fn agreed(board: &Board) -> (Answer, Vec<u32>) {
+    if let Err(report) = compare(board) {
+        panic!("{report}");
+    }
+    let (answer, buffer) = library(board);
+    let words = 12 * answer.count as usize;
+    (answer, buffer[GUARD..GUARD + words].to_vec())
+}
+
+fn expect(width: u32, root: &Node, number: u32, place: usize) {
+    let board = Board::of(width, root);
+    let (answer, _) = agreed(&board);
+    let told = (answer.number, answer.place as usize);
+    assert_eq!(told, (number, place), "{}", text::write(&board));
+}
+
+fn record(root: &Node, path: &[&str]) -> usize {
+    root.find(path).expect("the path exists")
+}
+
+#[test]
+fn whole_case() {
+    let (answer, rows) = agreed(&Board::of(64, &worked::whole_case()));
+    let expected = Answer {
+        count: 2,
+        mask: 0x100,
+        shifts: [0, 8, 15, 31],
+        bits: 1,
+        ..Answer::default()
+    };
+    assert_eq!(answer, expected);
+    let expected = [
+        [3, 6, 0, 0x100, GAP, 0, GAP, GAP, GAP, 0, GAP, 1],
+        [4, 5, 0, 0, GAP, 0, GAP, GAP, GAP, 1, GAP, 0],
+    ];
+    assert_eq!(rows, expected.as_flattened());
+}
+
+#[test]
+fn example_1() {
+    let (answer, rows) = agreed(&Board::of(64, &worked::example_1()));
+    let expected = Answer {
+        count: 16,
+        mask: 0x1_0001_0101,
+        shifts: [0, 7, 14, 29],
+        bits: 4,
+        ..Answer::default()
+    };
+    assert_eq!(answer, expected);
+    for (at, row) in rows.chunks(12).enumerate() {
+        let bit = |n: usize| (at >> n & 1) as u32;
+        let lower = bit(2) << 16 | bit(1) << 8 | bit(0);
+        let path = [0, bit(3), bit(2), GAP, GAP, bit(1), bit(0)];
+        assert_eq!(row[2..4], [bit(3), lower]);
+        assert_eq!(row[4..11], path);
+        assert_eq!(row[11], at as u32);
+    }
+}
+
+#[test]
+fn example_2() {
+    for width in [32, 64] {
+        let (answer, rows) = agreed(&Board::of(width, &worked::example_2()));
+        let expected = Answer {
+            count: 8,
+            mask: 0x103,
+            shifts: [0, 6, 13, 29],
+            bits: 3,
+            ..Answer::default()
+        };
+        assert_eq!(answer, expected);
+        for (at, row) in rows.chunks(12).enumerate() {
+            let at = at as u32;
+            let (cluster, core) = (at / 4, at % 4);
+            assert_eq!(row[2..4], [0, cluster << 8 | core]);
+            assert_eq!(row[4..11], [GAP, cluster, GAP, GAP, GAP, core, GAP]);
+            assert_eq!(row[11], at);
+        }
+    }
+}
+
+#[test]
+fn example_3_in_three_forms() {
+    let core_2 = ["cpu-map", "socket0", "cluster0", "core2"];
+    let printed = worked::example_3();
+    expect(64, &printed, 24, record(&printed, &core_2));
+    let corrected = worked::example_3_corrected();
+    expect(64, &corrected, 25, record(&corrected, &core_2));
+    let without = worked::example_3_without_phandle();
+    expect(64, &without, 17, record(&without, &["cpu@4"]));
+}
+
+/// One cluster of childless cores with these MPIDRs.
+fn cores(mpidrs: &[u64]) -> Node {
+    let leaves = (0..mpidrs.len())
+        .map(|at| leaf(&format!("core{at}"), at as u32 + 1))
+        .collect();
+    let map = Node::new("cpu-map").child(group("cluster", 0, leaves));
+    let mut root = cpus_node(2).child(map);
+    for (at, &mpidr) in mpidrs.iter().enumerate() {
+        root.children.push(cpu_node(2, mpidr, at as u32 + 1));
+    }
+    root
+}
+
+#[test]
+fn slips_to_keep_out() {
+    // Width is not the number of ones in the mask (H4, H7); H6 has slot GAP.
+    let lists: [(&[u64], &[u32]); 3] = [
+        (&[0x2, 0x80], &[1, 64]),
+        (&[0x0, 0x5], &[0, 5]),
+        (&[0x0, 0xFF_00FF_FFFF], &[0, 0xFFFF_FFFF]),
+    ];
+    for (mpidrs, slots) in lists {
+        let (answer, rows) = agreed(&Board::of(64, &cores(mpidrs)));
+        assert_eq!(answer.number, 0);
+        for (row, slot) in rows.chunks(12).zip(slots) {
+            assert_eq!((row[4], row[11]), (GAP, *slot));
+        }
+    }
+    // A cluster with `cluster0` and then `core1`.
+    let mut mixed = cores(&[0, 1]);
+    let inner = group("cluster", 0, vec![leaf("core0", 1)]);
+    mixed.at(2).children[0] = inner;
+    let second_child = record(&mixed, &["cpu-map", "cluster0", "core1"]);
+    expect(64, &mixed, 20, second_child);
+    // A cpu that no leaf names: no row is written.
+    let mut unmapped = cores(&[0, 1]);
+    unmapped.children.push(cpu_node(2, 2, 3));
+    expect(64, &unmapped, 26, record(&unmapped, &["cpu@2"]));
+    // One lone socket, one cpu, a core beside threads.
+    let threads = vec![leaf("thread0", 1), leaf("thread1", 2)];
+    let clusters = vec![group("core", 0, threads), leaf("core1", 3)];
+    let socket = group("socket", 0, vec![group("cluster", 0, clusters)]);
+    let mut root = cpus_node(1).child(Node::new("cpu-map").child(socket));
+    for at in 0..3 {
+        root.children.push(cpu_node(1, at, at as u32 + 1));
+    }
+    expect(32, &root, 0, 0);
+    expect(64, &cores(&[0x7]), 0, 0);
+}
+
+/// A map of nested clusters with one core inside.
+fn nested(depth: usize) -> Node {
+    let mut inner = leaf("core0", 1);
+    for _ in 0..depth {
+        inner = group("cluster", 0, vec![inner]);
+    }
+    let map = Node::new("cpu-map").child(inner);
+    cpus_node(1).child(map).child(cpu_node(1, 0, 1))
+}
+
+#[test]
+fn limits() {
+    for (depth, number) in [(1, 0), (2, 0), (3, 0), (4, 0), (5, 22), (6, 22)] {
+        let place = if number == 0 { 0 } else { 6 };
+        expect(64, &nested(depth), number, place);
+    }
+    for (records, number) in [(1023, 0), (1024, 0), (1025, 2)] {
+        let mut root = regular_board(16);
+        fill_up(&mut root, records, 0);
+        expect(64, &root, number, 0);
+    }
+    for (props, number) in [(4095, 0), (4096, 0), (4097, 3)] {
+        let mut root = regular_board(16);
+        fill_up(&mut root, 1000, props);
+        expect(64, &root, number, 0);
+    }
+    for (cpus, number) in [(255, 0), (256, 0), (257, 10), (300, 10)] {
+        expect(64, &regular_board(cpus), number, 0);
+    }
+    for (bytes, number) in [(65536, 0), (65537, 4)] {
+        let mut board = Board::of(64, &regular_board(4));
+        board.pool.resize(bytes, 7);
+        assert_eq!(agreed(&board).0.number, number);
+    }
+    // 10 before 26, and 26 alone.
+    let mut root = regular_board(255);
+    root.children.push(cpu_node(2, 0xFF_0000_0000, 999));
+    expect(64, &root, 26, root.count() - 1);
+    root.children.push(cpu_node(2, 0xFE_0000_0000, 998));
+    expect(64, &root, 10, 0);
+}
+
+/// Names that are and are not topology names (N1 to N6 and others).
+#[test]
+fn names() {
+    let cluster_numbers = |count: usize| {
+        let mut root = cpus_node(1).child(Node::new("cpu-map"));
+        for at in 0..count {
+            let cluster = group("cluster", at, vec![leaf("core0", at as u32 + 1)]);
+            root.children[0].children.push(cluster);
+            root.children.push(cpu_node(1, at as u64, at as u32 + 1));
+        }
+        root
+    };
+    expect(64, &cluster_numbers(12), 0, 0);
+    for (name, number) in [
+        ("core0", 0),
+        ("core1", 21),
+        ("core10", 21),
+        ("core9999", 21),
+        ("core01", 19),
+        ("core00", 19),
+        ("core", 19),
+        ("core10000", 19),
+        ("core99999999999", 19),
+        ("core-0", 19),
+        ("core+0", 19),
+        ("core 0", 19),
+        ("core0x", 19),
+        ("core0\0", 19),
+        ("Core0", 19),
+        ("xcore0", 19),
+        ("core@0", 19),
+        ("socket9999", 20),
+        ("socket10000", 19),
+        ("thread", 19),
+        ("thread0", 20),
+        ("cpu@9", 19),
+    ] {
+        let mut root = cores(&[0]);
+        let at = record(&root, &["cpu-map", "cluster0", "core0"]);
+        root.at(at).name = name.as_bytes().to_vec();
+        let place = if number == 0 { 0 } else { at };
+        expect(64, &root, number, place);
+        // The same name outside the map.
+        let mut outside = cores(&[0]);
+        outside.at(4).children.push(Node::new(name));
+        let topology = matches!(number, 0 | 20 | 21);
+        let told = if topology { (18, 5) } else { (0, 0) };
+        expect(64, &outside, told.0, told.1);
+    }
+}
+
+/// A sound board that single faults are made on; the record numbers are used
+/// in the table of faults.
+fn fault_base() -> Node {
+    let core_0 = group("core", 0, vec![leaf("thread0", 1), leaf("thread1", 2)]);
+    let cluster_0 = group("cluster", 0, vec![core_0, leaf("core1", 3)]);
+    let cluster_1 = group("cluster", 1, vec![leaf("core0", 4)]);
+    let socket_0 = group("socket", 0, vec![cluster_0, cluster_1]);
+    let mut deep = group("core", 0, vec![leaf("thread0", 5)]);
+    for _ in 0..4 {
+        deep = group("cluster", 0, vec![deep]);
+    }
+    let socket_1 = group("socket", 1, vec![deep]);
+    let map = Node::new("cpu-map").child(socket_0).child(socket_1);
+    let mut spare = cpu_node(2, 0x777, 77);
+    spare.name = b"spare".to_vec();
+    cpus_node(2)
+        .child(cpu_node(2, 0x0, 1))
+        .child(cpu_node(2, 0x1, 2))
+        .child(map)
+        .child(cpu_node(2, 0x100, 3))
+        .child(Node::new("idle-states").child(Node::new("cpu-sleep")))
+        .child(cpu_node(2, 0x101, 4))
+        .child(cpu_node(2, 0x1_0000_0000, 5))
+        .child(spare)
+}
+
+const CPU_RECORDS: [usize; 5] = [1, 2, 19, 22, 23];
+
+#[derive(Clone, Copy)]
+enum Change {
+    Tree(fn(&mut Node)),
+    Words(fn(&mut Board)),
+}
+use Change::{Tree, Words};
+
+fn rename(root: &mut Node, record: usize, name: &str) {
+    root.at(record).name = name.as_bytes().to_vec();
+}
+
+/// Number, place and change. No change moves a record to another number.
+type Fault = (u32, usize, Change);
+
+fn faults() -> Vec<Fault> {
+    let bad_bits: fn(&mut Node) = |r| r.at(19).set("reg", [0, 0, 1, 0, 0, 0, 1, 0]);
+    vec![
+        (1, 0, Words(|b| b.width = 33)),
+        (2, 0, Words(|b| b.nodes.push(0))),
+        (3, 0, Words(|b| b.props.push(0))),
+        (4, 0, Words(|b| b.pool.resize(65537, 0))),
+        (5, 2, Words(|b| b.nodes[6 + 2] = 0)),
+        (5, 20, Words(|b| b.nodes[60 + 1] = GAP)),
+        (6, 3, Words(|b| b.nodes[9] = 3)),
+        (6, 23, Words(|b| b.nodes[69] = 21)),
+        (7, 1, Words(|b| b.props[5 + 4] = GAP)),
+        (7, 4, Words(|b| b.props[20] = 99)),
+        (8, 1, Words(|b| b.props.copy_within(0..3, 5))),
+        (8, 3, Words(|b| b.props.copy_within(10..13, 15))),
+        (9, 0, Tree(|r| r.set("#size-cells", cell(1)))),
+        (9, 0, Tree(|r| r.set("#address-cells", cell(3)))),
+        (9, 0, Tree(|r| rename(r, 0, "cpu"))),
+        (
+            10,
+            0,
+            Tree(|r| CPU_RECORDS.iter().for_each(|&c| rename(r, c, "x"))),
+        ),
+        (11, 1, Tree(|r| r.at(1).set("device_type", b"cpu"))),
+        (11, 22, Tree(|r| r.at(22).set("device_type", b"cpus\0"))),
+        (12, 1, Tree(|r| r.at(1).set("reg", [0; 4]))),
+        (12, 19, Tree(bad_bits)),
+        (13, 2, Tree(|r| r.at(2).set("reg", [0; 8]))),
+        (
+            13,
+            23,
+            Tree(|r| r.at(23).set("reg", [0, 0, 0, 0, 0, 0, 0, 1])),
+        ),
+        (15, 0, Tree(|r| rename(r, 3, "cpu-maps"))),
+        (16, 8, Tree(|r| rename(r, 8, "cpu-map"))),
+        (16, 21, Tree(|r| rename(r, 21, "cpu-map"))),
+        (17, 1, Tree(|r| r.at(1).set("phandle", cell(0)))),
+        (17, 19, Tree(|r| r.at(19).remove("phandle"))),
+        (17, 23, Tree(|r| r.at(23).set("phandle", cell(2)))),
+        (18, 20, Tree(|r| rename(r, 20, "core0"))),
+        (19, 18, Tree(|r| rename(r, 18, "x"))),
+        (20, 9, Tree(|r| rename(r, 9, "cluster1"))),
+        (21, 12, Tree(|r| rename(r, 12, "socket2"))),
+        (21, 16, Tree(|r| rename(r, 16, "cluster1"))),
+        (22, 17, Tree(|r| rename(r, 17, "cluster0"))),
+        (23, 11, Tree(|r| rename(r, 11, "cluster0"))),
+        (24, 8, Tree(|r| r.at(8).remove("cpu"))),
+        (24, 9, Tree(|r| r.at(9).set("cpu", cell(99)))),
+        (25, 18, Tree(|r| r.at(18).set("cpu", cell(1)))),
+        (26, 24, Tree(|r| rename(r, 24, "cpu@777"))),
+        (27, 0, Words(|b| b.room = 59)),
+    ]
+}
+
+fn with_faults(faults: &[&Fault]) -> Board {
+    let mut root = fault_base();
+    for fault in faults {
+        if let Tree(change) = fault.2 {
+            change(&mut root);
+        }
+    }
+    let mut board = Board::of(64, &root);
+    for fault in faults {
+        if let Words(change) = fault.2 {
+            change(&mut board);
+        }
+    }
+    board
+}
+
+/// Each number alone, then every pair of faults in both orders: the one of the
+/// earlier stage, lower place and smaller number is told.
+#[test]
+fn each_number_and_pairs_of_faults() {
+    expect(64, &fault_base(), 0, 0);
+    let faults = faults();
+    let mut hit = [0; 28];
+    for fault in &faults {
+        let board = with_faults(&[fault]);
+        let (answer, _) = agreed(&board);
+        let told = (answer.number, answer.place as usize);
+        assert_eq!(told, (fault.0, fault.1), "{}", text::write(&board));
+        hit[fault.0 as usize] += 1;
+    }
+    assert!(numbers().all(|number| hit[number] > 0));
+    let key = |f: &Fault| (second::stage_of(f.0), f.1, f.0);
+    let mut pairs = 0;
+    for first in &faults {
+        for second in &faults {
+            let board = with_faults(&[first, second]);
+            let (answer, _) = agreed(&board);
+            // A sound cpu node made by 26 keeps 10 from being broken.
+            if (first.0.min(second.0), first.0.max(second.0)) == (10, 26) {
+                continue;
+            }
+            let wanted = if key(first) < key(second) {
+                first
+            } else {
+                second
+            };
+            let told = (answer.number, answer.place as usize);
+            let both = (first.0, second.0);
+            assert_eq!(
+                told,
+                (wanted.0, wanted.1),
+                "{both:?}\n{}",
+                text::write(&board)
+            );
+            pairs += 1;
+        }
+    }
+    println!("{} faults, {pairs} ordered pairs", faults.len());
+}
+
+/// The smallest number that one record breaks is told.
+#[test]
+fn several_faults_at_one_record() {
+    type Spoil = fn(&mut Node);
+    let cases: [(u32, usize, Spoil); 12] = [
+        // device_type, reg length; then reg alone
+        (11, 1, |r| {
+            r.at(1).remove("device_type");
+            r.at(1).remove("reg");
+        }),
+        // a reg of wrong bits that an earlier one has too is told there
+        (12, 1, |r| {
+            for at in [1, 2] {
+                r.at(at).set("reg", [0, 0, 0, 0, 1, 0, 0, 0]);
+            }
+        }),
+        // no topology name and no cpu
+        (19, 8, |r| {
+            rename(r, 8, "thread");
+            r.at(8).remove("cpu");
+        }),
+        // kind, number and no cpu
+        (20, 8, |r| {
+            rename(r, 8, "core7");
+            r.at(8).remove("cpu");
+        }),
+        // number and no cpu
+        (21, 8, |r| {
+            rename(r, 8, "thread7");
+            r.at(8).remove("cpu");
+        }),
+        // number and a cpu named before
+        (21, 8, |r| {
+            rename(r, 8, "thread0");
+            r.at(8).set("cpu", cell(1));
+        }),
+        // kind, depth and no children
+        (20, 18, |r| rename(r, 18, "cluster0")),
+        // number, depth and no children
+        (21, 17, |r| {
+            rename(r, 17, "cluster3");
+            r.at(17).children.clear();
+        }),
+        // depth and no children
+        (22, 17, |r| {
+            rename(r, 17, "cluster0");
+            r.at(17).children.clear();
+        }),
+        // number and no children
+        (21, 10, |r| {
+            rename(r, 10, "cluster5");
+            r.at(10).children.clear();
+        }),
+        // a thread with a child and a bad cpu is told before the child
+        (24, 18, |r| {
+            r.at(18).children.push(leaf("thread0", 5));
+            r.at(18).set("cpu", cell(99));
+        }),
+        // with a good cpu the child is told
+        (20, 19, |r| r.at(18).children.push(leaf("thread0", 5))),
+    ];
+    for (number, place, spoil) in cases {
+        let mut root = fault_base();
+        spoil(&mut root);
+        expect(64, &root, number, place);
+    }
+    // Names that are no topology name below a thread: 19 at the child.
+    let mut root = fault_base();
+    root.at(18).children.push(Node::new("x"));
+    expect(64, &root, 19, 19);
+}
+
+/// The map before, after and below other nodes; second maps everywhere.
+#[test]
+fn maps_in_odd_places() {
+    let mut moved = cores(&[0, 1]);
+    let map = moved.children.remove(0);
+    moved.children.push(map);
+    expect(64, &moved, 0, 0);
+    // A lone cpu-map below a cpu node is no map.
+    let mut below = cores(&[0, 1]);
+    let map = below.children.remove(0);
+    below.children[0].children.push(map);
+    expect(64, &below, 15, 0);
+    // A second one, before the map, below another node.
+    let mut before = cores(&[0, 1]);
+    let holder = Node::new("x").child(Node::new("cpu-map"));
+    before.children.insert(0, holder);
+    expect(64, &before, 16, 2);
+    let mut twice = cores(&[0, 1]);
+    twice.children.push(Node::new("cpu-map"));
+    expect(64, &twice, 16, 7);
+    // An empty map.
+    let mut empty = cores(&[0, 1]);
+    empty.children[0].children.clear();
+    expect(64, &empty, 23, 1);
+    // Topology names below a cpu node.
+    let mut inside_cpu = cores(&[0, 1]);
+    inside_cpu.children[1].children.push(Node::new("core0"));
+    expect(64, &inside_cpu, 18, 6);
+}
+
+#[test]
+fn cells_and_widths() {
+    for (width, cells, number) in [(32, 1, 0), (64, 1, 0), (32, 2, 9), (64, 2, 0)] {
+        let mut root = cpus_node(cells);
+        let map = Node::new("cpu-map").child(group("cluster", 0, vec![leaf("core0", 1)]));
+        root.children = vec![map, cpu_node(cells, 5, 1)];
+        expect(width, &root, number, 0);
+    }
+    let spoilt: [(&str, &[u8], u32); 10] = [
+        ("#address-cells", &[], 9),
+        ("#address-cells", &[0, 0, 1], 9),
+        ("#address-cells", &[0, 0, 0, 1, 0], 9),
+        ("#address-cells", &[1, 0, 0, 0], 9),
+        ("#address-cells", &[0, 0, 1, 1], 9),
+        ("#address-cells", &[0, 0, 0, 0], 9),
+        ("#address-cells", &[0, 0, 0, 3], 9),
+        ("#size-cells", &[], 9),
+        ("#size-cells", &[0, 0, 0], 9),
+        ("#size-cells", &[0, 0, 0, 0, 0], 9),
+    ];
+    for (name, value, number) in spoilt {
+        let mut root = cores(&[0]);
+        root.set(name, value);
+        expect(64, &root, number, 0);
+    }
+    for name in ["#address-cells", "#size-cells"] {
+        let mut root = cores(&[0]);
+        root.remove(name);
+        expect(64, &root, 9, 0);
+    }
+    // Every single bit of reg, with one and with two cells.
+    for cells in [1u32, 2] {
+        for at in 0..32 * cells {
+            let allowed = at < 24 || (32..40).contains(&at);
+            let mut root = cpus_node(cells);
+            let map = Node::new("cpu-map").child(group("cluster", 0, vec![leaf("core0", 1)]));
+            root.children = vec![map, cpu_node(cells, 1 << at, 1)];
+            let told = if allowed { (0, 0) } else { (12, 4) };
+            expect(64, &root, told.0, told.1);
+        }
+    }
+}
+
+/// Values of device_type, phandle and cpu, and which of them are sound.
+#[test]
+fn property_values() {
+    let cpu_values: [(&str, &[u8], u32); 18] = [
+        ("device_type", b"cpu\0", 0),
+        ("device_type", b"", 11),
+        ("device_type", b"cpu", 11),
+        ("device_type", b"cpu\0\0", 11),
+        ("device_type", b"CPU\0", 11),
+        ("device_type", b"cpux", 11),
+        ("reg", &[0; 7], 12),
+        ("reg", &[0; 9], 12),
+        ("reg", &[0; 4], 12),
+        ("reg", &[], 12),
+        ("reg", &[0; 8], 13),
+        ("phandle", &[], 17),
+        ("phandle", &[0, 0, 2], 17),
+        ("phandle", &[0, 0, 0, 2, 0], 17),
+        ("phandle", &[0; 4], 17),
+        ("phandle", &[0xFF; 4], 17),
+        ("phandle", &[0, 0, 0, 1], 17),
+        ("phandle", &[0, 0, 0, 2], 0),
+    ];
+    for (name, value, number) in cpu_values {
+        let mut root = cores(&[0, 1]);
+        let second_cpu = record(&root, &["cpu@1"]);
+        root.at(second_cpu).set(name, value);
+        expect(64, &root, number, if number == 0 { 0 } else { second_cpu });
+    }
+    for name in ["device_type", "reg", "phandle"] {
+        let mut root = cores(&[0, 1]);
+        let first_cpu = record(&root, &["cpu@0"]);
+        root.at(first_cpu).remove(name);
+        let number = match name {
+            "device_type" => 11,
+            "reg" => 12,
+            _ => 17,
+        };
+        expect(64, &root, number, first_cpu);
+    }
+    let leaf_values: [(&[u8], u32); 7] = [
+        (&[0, 0, 0, 2], 0),
+        (&[], 24),
+        (&[0, 0, 2], 24),
+        (&[0, 0, 0, 2, 0], 24),
+        (&[0, 0, 0, 2, 0, 0, 0, 2], 24),
+        (&[2, 0, 0, 0], 24),
+        (&[0, 0, 0, 1], 25),
+    ];
+    for (value, number) in leaf_values {
+        let mut root = cores(&[0, 1]);
+        let core = record(&root, &["cpu-map", "cluster0", "core1"]);
+        root.at(core).set("cpu", value);
+        expect(64, &root, number, if number == 0 { 0 } else { core });
+    }
+    // Phandles of other nodes do not matter.
+    let mut root = cores(&[0, 1]);
+    root.children
+        .push(Node::new("l2-cache").with("phandle", cell(2)));
+    expect(64, &root, 0, 0);
+    root.at(2).set("phandle", cell(1));
+    expect(64, &root, 0, 0);
+}
+
+/// Which children of record 0 are cpu records.
+#[test]
+fn cpu_names() {
+    for (name, is_cpu) in [
+        ("cpu", true),
+        ("cpu@", true),
+        ("cpu@1", true),
+        ("cpu@1,2", true),
+        ("cpu0", false),
+        ("cpus", false),
+        ("cpu-", false),
+        ("Cpu@1", false),
+        ("cpu\0", false),
+        ("xcpu@1", false),
+    ] {
+        let mut root = cores(&[0, 1]);
+        let last = record(&root, &["cpu@1"]);
+        root.at(last).name = name.as_bytes().to_vec();
+        // A node that is no cpu record leaves the second core without a cpu.
+        let told = if is_cpu { (0, 0) } else { (24, 4) };
+        expect(64, &root, told.0, told.1);
+    }
+    // A cpu node below another node is none.
+    let mut root = cores(&[0, 1]);
+    let moved = root.children.pop().expect("a cpu node");
+    root.children.push(Node::new("x").child(moved));
+    expect(64, &root, 24, 4);
+}
+
+/// Row buffers of every length around what is needed; `compare` checks the
+/// words before, within and behind the lent part.
+#[test]
+fn row_buffers() {
+    let mut tried = 0;
+    for cpus in [1, 2, 3, 16, 256] {
+        let mut board = Board::of(64, &regular_board(cpus));
+        let need = 12 * cpus;
+        let lengths = (0..=40).chain(need.saturating_sub(25)..need + 26);
+        for room in lengths {
+            board.room = room;
+            let (answer, _) = agreed(&board);
+            assert_eq!(answer.number, if room < need { 27 } else { 0 });
+            tried += 1;
+        }
+    }
+    println!("{tried} row buffers");
+}
+
+#[test]
+fn answer_lengths() {
+    const PATTERN: u32 = 0xDEAD_BEEF;
+    let refused = Board::of(64, &worked::example_3());
+    for board in [Board::of(64, &worked::whole_case()), refused] {
+        let (answer, rows) = agreed(&board);
+        for length in 0..=12 {
+            let mut buffer = [PATTERN; 20];
+            let mut lent_rows = [PATTERN; 30];
+            let lent = &mut buffer[4..4 + length];
+            let Board {
+                width,
+                nodes,
+                props,
+                pool,
+                ..
+            } = &board;
+            let number = ffi::read_tables_into(*width, nodes, props, pool, &mut lent_rows, lent);
+            let mut wanted = [PATTERN; 20];
+            let mut wanted_rows = [PATTERN; 30];
+            if length < ANSWER_WORDS {
+                assert_eq!(number, SHORT_ANSWER);
+            } else {
+                assert_eq!(number, answer.number);
+                wanted[4..14].copy_from_slice(&answer.words());
+                wanted_rows[..rows.len()].copy_from_slice(&rows);
+            }
+            assert_eq!(buffer, wanted);
+            assert_eq!(lent_rows, wanted_rows);
+        }
+    }
+}
+
+#[test]
+fn small_maps() {
+    let mut counts = [0u32; 28];
+    let mut job = |board: Board| match compare(&board) {
+        Ok(number) => counts[number as usize] += 1,
+        Err(report) => panic!("{report}"),
+    };
+    for count in 0..=4 {
+        maps_in_order(count, &mut job);
+    }
+    for count in 1..=3 {
+        maps_with_choices(count, &mut job);
+    }
+    let all: u32 = counts.iter().sum();
+    println!("{all} small maps, accepted {}: {counts:?}", counts[0]);
+}
+
+#[test]
+fn sound_boards() {
+    let seed = 0x50_0D;
+    let mut rng = Rng::new(seed);
+    let boards = 10_000;
+    for at in 0..boards {
+        let most = if at % 500 == 0 { 256 } else { 16 };
+        let (width, root) = valid_board(&mut rng, most);
+        let board = Board::shuffled(width, &root, &mut rng);
+        if board.pool.len() > 65536 || board.node_count() > 1024 {
+            continue;
+        }
+        let (answer, _) = agreed(&board);
+        assert_eq!(answer.number, 0, "{}", text::write(&board));
+    }
+    println!("{boards} sound boards, seed {seed:#x}");
+}
+
+#[test]
+fn mixed_boards() {
+    let seed = 0xB0A2_D500;
+    let mut rng = Rng::new(seed);
+    let mut counts = [0u32; 28];
+    let boards = 60_000;
+    for at in 0..boards {
+        let board = if at % 2000 == 0 {
+            large_board(&mut rng)
+        } else {
+            any_board(&mut rng)
+        };
+        match compare(&board) {
+            Ok(number) => counts[number as usize] += 1,
+            Err(report) => panic!("seed {seed:#x}, board {at}:\n{report}"),
+        }
+    }
+    println!("{boards} mixed boards, seed {seed:#x}, by number: {counts:?}");
+    assert!(numbers().all(|number| counts[number] > 0));
+}
