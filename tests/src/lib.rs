@@ -3,6 +3,7 @@
 
 pub mod answer;
 pub mod build;
+pub mod cases;
 pub mod compare;
 pub mod fast;
 pub mod ffi;

@@ -1,10 +1,11 @@
 //! read_tables against the second reader.
 
 use sunderwath_tests::answer::{Answer, ANSWER_WORDS, SHORT_ANSWER};
+use sunderwath_tests::build::faults::{self, rename, with_faults, Fault};
 use sunderwath_tests::build::mix::{any_board, large_board};
 use sunderwath_tests::build::shapes::{fill_up, regular_board, valid_board};
 use sunderwath_tests::build::small::{maps_in_order, maps_with_choices};
-use sunderwath_tests::build::worked::{self, cpu_node, cpus_node, group, leaf};
+use sunderwath_tests::build::worked::{self, cores, cpu_node, cpus_node, group, leaf, nested};
 use sunderwath_tests::build::{cell, text, Board, Node};
 use sunderwath_tests::compare::{compare, library};
 use sunderwath_tests::rng::Rng;
@@ -111,19 +112,6 @@ fn example_3_in_three_forms() {
     expect(64, &without, 17, record(&without, &["cpu@4"]));
 }
 
-/// One cluster of childless cores with these MPIDRs.
-fn cores(mpidrs: &[u64]) -> Node {
-    let leaves = (0..mpidrs.len())
-        .map(|at| leaf(&format!("core{at}"), at as u32 + 1))
-        .collect();
-    let map = Node::new("cpu-map").child(group("cluster", 0, leaves));
-    let mut root = cpus_node(2).child(map);
-    for (at, &mpidr) in mpidrs.iter().enumerate() {
-        root.children.push(cpu_node(2, mpidr, at as u32 + 1));
-    }
-    root
-}
-
 #[test]
 fn slips_to_keep_out() {
     // Width is not the number of ones in the mask (H4, H7); H6 has slot GAP.
@@ -140,35 +128,15 @@ fn slips_to_keep_out() {
         }
     }
     // A cluster with `cluster0` and then `core1`.
-    let mut mixed = cores(&[0, 1]);
-    let inner = group("cluster", 0, vec![leaf("core0", 1)]);
-    mixed.at(2).children[0] = inner;
+    let mixed = worked::cluster_beside_core();
     let second_child = record(&mixed, &["cpu-map", "cluster0", "core1"]);
     expect(64, &mixed, 20, second_child);
     // A cpu that no leaf names: no row is written.
-    let mut unmapped = cores(&[0, 1]);
-    unmapped.children.push(cpu_node(2, 2, 3));
+    let unmapped = worked::unmapped_cpu();
     expect(64, &unmapped, 26, record(&unmapped, &["cpu@2"]));
     // One lone socket, one cpu, a core beside threads.
-    let threads = vec![leaf("thread0", 1), leaf("thread1", 2)];
-    let clusters = vec![group("core", 0, threads), leaf("core1", 3)];
-    let socket = group("socket", 0, vec![group("cluster", 0, clusters)]);
-    let mut root = cpus_node(1).child(Node::new("cpu-map").child(socket));
-    for at in 0..3 {
-        root.children.push(cpu_node(1, at, at as u32 + 1));
-    }
-    expect(32, &root, 0, 0);
+    expect(32, &worked::lone_socket(), 0, 0);
     expect(64, &cores(&[0x7]), 0, 0);
-}
-
-/// A map of nested clusters with one core inside.
-fn nested(depth: usize) -> Node {
-    let mut inner = leaf("core0", 1);
-    for _ in 0..depth {
-        inner = group("cluster", 0, vec![inner]);
-    }
-    let map = Node::new("cpu-map").child(inner);
-    cpus_node(1).child(map).child(cpu_node(1, 0, 1))
 }
 
 #[test]
@@ -254,141 +222,31 @@ fn names() {
     }
 }
 
-/// A sound board that single faults are made on; the record numbers are used
-/// in the table of faults.
-fn fault_base() -> Node {
-    let core_0 = group("core", 0, vec![leaf("thread0", 1), leaf("thread1", 2)]);
-    let cluster_0 = group("cluster", 0, vec![core_0, leaf("core1", 3)]);
-    let cluster_1 = group("cluster", 1, vec![leaf("core0", 4)]);
-    let socket_0 = group("socket", 0, vec![cluster_0, cluster_1]);
-    let mut deep = group("core", 0, vec![leaf("thread0", 5)]);
-    for _ in 0..4 {
-        deep = group("cluster", 0, vec![deep]);
-    }
-    let socket_1 = group("socket", 1, vec![deep]);
-    let map = Node::new("cpu-map").child(socket_0).child(socket_1);
-    let mut spare = cpu_node(2, 0x777, 77);
-    spare.name = b"spare".to_vec();
-    cpus_node(2)
-        .child(cpu_node(2, 0x0, 1))
-        .child(cpu_node(2, 0x1, 2))
-        .child(map)
-        .child(cpu_node(2, 0x100, 3))
-        .child(Node::new("idle-states").child(Node::new("cpu-sleep")))
-        .child(cpu_node(2, 0x101, 4))
-        .child(cpu_node(2, 0x1_0000_0000, 5))
-        .child(spare)
-}
-
-const CPU_RECORDS: [usize; 5] = [1, 2, 19, 22, 23];
-
-#[derive(Clone, Copy)]
-enum Change {
-    Tree(fn(&mut Node)),
-    Words(fn(&mut Board)),
-}
-use Change::{Tree, Words};
-
-fn rename(root: &mut Node, record: usize, name: &str) {
-    root.at(record).name = name.as_bytes().to_vec();
-}
-
-/// Number, place and change. No change moves a record to another number.
-type Fault = (u32, usize, Change);
-
-fn faults() -> Vec<Fault> {
-    let bad_bits: fn(&mut Node) = |r| r.at(19).set("reg", [0, 0, 1, 0, 0, 0, 1, 0]);
-    vec![
-        (1, 0, Words(|b| b.width = 33)),
-        (2, 0, Words(|b| b.nodes.push(0))),
-        (3, 0, Words(|b| b.props.push(0))),
-        (4, 0, Words(|b| b.pool.resize(65537, 0))),
-        (5, 2, Words(|b| b.nodes[6 + 2] = 0)),
-        (5, 20, Words(|b| b.nodes[60 + 1] = GAP)),
-        (6, 3, Words(|b| b.nodes[9] = 3)),
-        (6, 23, Words(|b| b.nodes[69] = 21)),
-        (7, 1, Words(|b| b.props[5 + 4] = GAP)),
-        (7, 4, Words(|b| b.props[20] = 99)),
-        (8, 1, Words(|b| b.props.copy_within(0..3, 5))),
-        (8, 3, Words(|b| b.props.copy_within(10..13, 15))),
-        (9, 0, Tree(|r| r.set("#size-cells", cell(1)))),
-        (9, 0, Tree(|r| r.set("#address-cells", cell(3)))),
-        (9, 0, Tree(|r| rename(r, 0, "cpu"))),
-        (
-            10,
-            0,
-            Tree(|r| CPU_RECORDS.iter().for_each(|&c| rename(r, c, "x"))),
-        ),
-        (11, 1, Tree(|r| r.at(1).set("device_type", b"cpu"))),
-        (11, 22, Tree(|r| r.at(22).set("device_type", b"cpus\0"))),
-        (12, 1, Tree(|r| r.at(1).set("reg", [0; 4]))),
-        (12, 19, Tree(bad_bits)),
-        (13, 2, Tree(|r| r.at(2).set("reg", [0; 8]))),
-        (
-            13,
-            23,
-            Tree(|r| r.at(23).set("reg", [0, 0, 0, 0, 0, 0, 0, 1])),
-        ),
-        (15, 0, Tree(|r| rename(r, 3, "cpu-maps"))),
-        (16, 8, Tree(|r| rename(r, 8, "cpu-map"))),
-        (16, 21, Tree(|r| rename(r, 21, "cpu-map"))),
-        (17, 1, Tree(|r| r.at(1).set("phandle", cell(0)))),
-        (17, 19, Tree(|r| r.at(19).remove("phandle"))),
-        (17, 23, Tree(|r| r.at(23).set("phandle", cell(2)))),
-        (18, 20, Tree(|r| rename(r, 20, "core0"))),
-        (19, 18, Tree(|r| rename(r, 18, "x"))),
-        (20, 9, Tree(|r| rename(r, 9, "cluster1"))),
-        (21, 12, Tree(|r| rename(r, 12, "socket2"))),
-        (21, 16, Tree(|r| rename(r, 16, "cluster1"))),
-        (22, 17, Tree(|r| rename(r, 17, "cluster0"))),
-        (23, 11, Tree(|r| rename(r, 11, "cluster0"))),
-        (24, 8, Tree(|r| r.at(8).remove("cpu"))),
-        (24, 9, Tree(|r| r.at(9).set("cpu", cell(99)))),
-        (25, 18, Tree(|r| r.at(18).set("cpu", cell(1)))),
-        (26, 24, Tree(|r| rename(r, 24, "cpu@777"))),
-        (27, 0, Words(|b| b.room = 59)),
-    ]
-}
-
-fn with_faults(faults: &[&Fault]) -> Board {
-    let mut root = fault_base();
-    for fault in faults {
-        if let Tree(change) = fault.2 {
-            change(&mut root);
-        }
-    }
-    let mut board = Board::of(64, &root);
-    for fault in faults {
-        if let Words(change) = fault.2 {
-            change(&mut board);
-        }
-    }
-    board
-}
-
 /// Each number alone, then every pair of faults in both orders: the one of the
 /// earlier stage, lower place and smaller number is told.
 #[test]
 fn each_number_and_pairs_of_faults() {
-    expect(64, &fault_base(), 0, 0);
-    let faults = faults();
+    expect(64, &faults::base(), 0, 0);
+    let faults = faults::faults();
     let mut hit = [0; 28];
     for fault in &faults {
         let board = with_faults(&[fault]);
         let (answer, _) = agreed(&board);
         let told = (answer.number, answer.place as usize);
-        assert_eq!(told, (fault.0, fault.1), "{}", text::write(&board));
-        hit[fault.0 as usize] += 1;
+        let wanted = (fault.number, fault.place);
+        assert_eq!(told, wanted, "{}", text::write(&board));
+        hit[fault.number as usize] += 1;
     }
     assert!(numbers().all(|number| hit[number] > 0));
-    let key = |f: &Fault| (second::stage_of(f.0), f.1, f.0);
+    let key = |f: &Fault| (second::stage_of(f.number), f.place, f.number);
     let mut pairs = 0;
     for first in &faults {
         for second in &faults {
             let board = with_faults(&[first, second]);
             let (answer, _) = agreed(&board);
             // A sound cpu node made by 26 keeps 10 from being broken.
-            if (first.0.min(second.0), first.0.max(second.0)) == (10, 26) {
+            let both = (first.number, second.number);
+            if matches!(both, (10, 26) | (26, 10)) {
                 continue;
             }
             let wanted = if key(first) < key(second) {
@@ -397,10 +255,9 @@ fn each_number_and_pairs_of_faults() {
                 second
             };
             let told = (answer.number, answer.place as usize);
-            let both = (first.0, second.0);
             assert_eq!(
                 told,
-                (wanted.0, wanted.1),
+                (wanted.number, wanted.place),
                 "{both:?}\n{}",
                 text::write(&board)
             );
@@ -472,12 +329,12 @@ fn several_faults_at_one_record() {
         (20, 19, |r| r.at(18).children.push(leaf("thread0", 5))),
     ];
     for (number, place, spoil) in cases {
-        let mut root = fault_base();
+        let mut root = faults::base();
         spoil(&mut root);
         expect(64, &root, number, place);
     }
     // Names that are no topology name below a thread: 19 at the child.
-    let mut root = fault_base();
+    let mut root = faults::base();
     root.at(18).children.push(Node::new("x"));
     expect(64, &root, 19, 19);
 }

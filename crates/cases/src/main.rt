@@ -1,5 +1,10 @@
 // Runs the worked cases of the scope and writes what the library answers; the file stdout holds what it must be.
+// The boards are in the file stdin. Their lines of stdout are the second reader's (tests/src/bin/make_cases.rs).
+mod answer;
+mod boards;
+mod input;
 mod say;
+mod table;
 
 use names::TopologyName;
 
@@ -62,7 +67,8 @@ fn refusal(label: &[u8], mpidr: u64, list: &[u64]) {
     say::text(b"\n");
 }
 
-fn main() {
+// H1 to H7.
+fn lists() {
     hash(b"H1", &[0x0]);
     hash(
         b"H2",
@@ -90,16 +96,26 @@ fn main() {
     hash(b"H5", &[0xF00, 0xF01, 0xF02, 0xF03]);
     hash(b"H6", &[0x0, 0xFF00FFFFFF]);
     hash(b"H7", &[0x0, 0x5]);
+}
+
+// N1 to N6.
+fn topology_names() {
     name(b"N1", b"cluster0");
     name(b"N2", b"core10");
     name(b"N3", b"core01");
     name(b"N4", b"thread");
     name(b"N5", b"socket9999");
     name(b"N6", b"socket10000");
+}
+
+fn main() {
+    lists();
+    topology_names();
     refusal(b"a bit outside", 0x0, &[0x0, 0x1000000]);
     refusal(
         b"an unknown MPIDR on a listed one's slot",
         0x10001,
         &[0x0, 0x1],
     );
+    boards::all();
 }

@@ -6,7 +6,7 @@ use native.Mathlib.Numerals.{add-one}
 use native.Mathlib.Omega.{arith}
 use lib.Arith.{bin-ind}
 use lib.Pow.{shr-shr}
-use lib.Bits.{bitAnd, bitOr, bitXor, differ, and-shr, and-mod, or-shr, or-mod, xor-shr, xor-mod}
+use lib.Bits.{bitAnd, bitOr, and-shr, and-mod, or-shr, or-mod}
 use Rattle.laws.specs.Digit.{digit}
 
 -- a digit is 0 or 1
@@ -55,18 +55,3 @@ pub digit-or : (a b k : ℕ) → digit (bitOr a b) k ≡ max (digit a k) (digit 
 unfolding digit
 digit-or a b k =
     rw (or-shr a b k) (or-mod (a / 2 ^ k) (b / 2 ^ k) 1 ∙ small bitOr max refl refl refl refl (a / 2 ^ k % 2) (b / 2 ^ k % 2) (omega arith) (omega arith))
-
-pub digit-xor : (a b k : ℕ) → digit (bitXor a b) k ≡ differ (digit a k) (digit b k)
-unfolding digit
-digit-xor a b k =
-    rw (xor-shr a b k) (xor-mod (a / 2 ^ k) (b / 2 ^ k) 1 ∙ small bitXor differ refl refl refl refl (a / 2 ^ k % 2) (b / 2 ^ k % 2) (omega arith) (omega arith))
-
--- what follows digit by digit
-pub or-assoc : (a b c : ℕ) → bitOr (bitOr a b) c ≡ bitOr a (bitOr b c)
-or-assoc a b c = digit-ext _ _ (λ k. simp digit-or (omega arith))
-
-pub and-assoc : (a b c : ℕ) → bitAnd (bitAnd a b) c ≡ bitAnd a (bitAnd b c)
-and-assoc a b c = digit-ext _ _ (λ k. simp digit-and (omega arith))
-
-pub and-or : (a b c : ℕ) → bitAnd (bitOr a b) c ≡ bitOr (bitAnd a c) (bitAnd b c)
-and-or a b c = digit-ext _ _ (λ k. simp (digit-and, digit-or) (omega arith))

@@ -16,7 +16,6 @@ pub mod ZeroCountLaws
 pub mod DecideLaws
 pub mod AppendListingLaws
 pub mod LeastLaws
-pub mod PlaceLaws
 pub mod TestedLaws
 pub mod IndexLaws
 pub mod LeastStageLaws

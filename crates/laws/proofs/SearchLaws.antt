@@ -53,13 +53,6 @@ module _ (p : ℕ → Bool) where
       go true e ih g = (n, omega arith, e)
       go false e ih g = let t = ih g in (t .0, omega (arith, t .1), t .2)
 
-  pub none-at : (n : ℕ) → anyBelow p n ≡ false → (i : ℕ) → i < n → p i ≡ false
-  none-at n h i lt = go (p i) refl
-    where
-      go : (b : Bool) → p i ≡ b → p i ≡ false
-      go true e = true-false (any-at i n lt e) h
-      go false e = e
-
   -- how many places pass: one place more
   pub count-yes : (i : ℕ) → p i ≡ true → countBelow p (i + 1) ≡ countBelow p i + 1
   unfolding countBelow

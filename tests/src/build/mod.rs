@@ -1,7 +1,9 @@
 //! Boards for tests: a tree of nodes, and the tables made from it.
 
 pub mod blob;
+pub mod cases;
 pub mod damage;
+pub mod faults;
 pub mod mix;
 pub mod shapes;
 pub mod shrink;

@@ -133,3 +133,50 @@ pub fn example_3_without_phandle() -> Node {
     cpus.at(last).remove("phandle");
     cpus
 }
+
+/// One cluster of childless cores with these MPIDRs.
+pub fn cores(mpidrs: &[u64]) -> Node {
+    let leaves = (0..mpidrs.len())
+        .map(|at| leaf(&format!("core{at}"), at as u32 + 1))
+        .collect();
+    let map = Node::new("cpu-map").child(group("cluster", 0, leaves));
+    let mut root = cpus_node(2).child(map);
+    for (at, &mpidr) in mpidrs.iter().enumerate() {
+        root.children.push(cpu_node(2, mpidr, at as u32 + 1));
+    }
+    root
+}
+
+/// A map of nested clusters with one core inside.
+pub fn nested(depth: usize) -> Node {
+    let mut inner = leaf("core0", 1);
+    for _ in 0..depth {
+        inner = group("cluster", 0, vec![inner]);
+    }
+    let map = Node::new("cpu-map").child(inner);
+    cpus_node(1).child(map).child(cpu_node(1, 0, 1))
+}
+
+/// A cluster with `cluster0` and then `core1`.
+pub fn cluster_beside_core() -> Node {
+    let mut root = cores(&[0, 1]);
+    root.at(2).children[0] = group("cluster", 0, vec![leaf("core0", 1)]);
+    root
+}
+
+/// Two cpus that leaves name, and one that none names.
+pub fn unmapped_cpu() -> Node {
+    cores(&[0, 1]).child(cpu_node(2, 2, 3))
+}
+
+/// One lone socket, with a core of two threads beside a core of none.
+pub fn lone_socket() -> Node {
+    let threads = vec![leaf("thread0", 1), leaf("thread1", 2)];
+    let cores = vec![group("core", 0, threads), leaf("core1", 3)];
+    let socket = group("socket", 0, vec![group("cluster", 0, cores)]);
+    let mut root = cpus_node(1).child(Node::new("cpu-map").child(socket));
+    for at in 0..3 {
+        root.children.push(cpu_node(1, at, at as u32 + 1));
+    }
+    root
+}

@@ -4,10 +4,6 @@ use lib.ListN.{length}
 use borrow.Author.Needs.{needs}
 use Rattle.cases.proofs.slots.Statement.{statement}
 use Rattle.cases.proofs.slots.Tie as tie
-use Rattle.cases.proofs.slots.Reads as reads
-use Rattle.cases.proofs.slots.Lts as lts
-use Rattle.affinity.proofs.list_slot.Reads as list-slot-reads
-use Rattle.cases.proofs.say.word.Reads as word-reads
 
 abbrev Inv-loop : tie.InvT-loop
 Inv-loop list i₀ i = i ≤ length list
@@ -15,39 +11,30 @@ Inv-loop list i₀ i = i ≤ length list
 abbrev μ-loop : tie.MeasureT-loop
 μ-loop list i₀ i = length list - i
 
--- src/main.rt:26:5
 loop-holds : tie.Need-loop-holds Inv-loop μ-loop
 loop-holds c = search needs
 
--- src/main.rt:27:39
 mul-list-slot : tie.Need-mul-list-slot Inv-loop μ-loop
 mul-list-slot c = search needs
 
--- src/main.rt:27:39
 shared-slice-read-list-slot : tie.Need-shared-slice-read-list-slot Inv-loop μ-loop
 shared-slice-read-list-slot c = search needs
 
--- src/main.rt:27:13
 list-slot-requires : tie.Need-list-slot-requires Inv-loop μ-loop
 list-slot-requires c κs = search needs
 
--- src/main.rt:28:9
 word-requires : tie.Need-word-requires Inv-loop μ-loop
 word-requires c κs = search needs
 
--- src/main.rt:29:9
 add-i : tie.Need-add-i Inv-loop μ-loop
 add-i c = search needs
 
--- src/main.rt:26:5
 loop-less : tie.Need-loop-less Inv-loop μ-loop
 loop-less c = search needs
 
--- src/main.rt:26:5
 loop-again : tie.Need-loop-again Inv-loop μ-loop
 loop-again c = search needs
 
--- src/main.rt:24:1
 returns : tie.Need-returns Inv-loop μ-loop
 returns c = search needs
 

@@ -1,0 +1,20 @@
+//! Writes the worked boards for the program `cases`, and prints what it has to
+//! write of them.
+//!
+//! make_cases FILE
+
+use std::process::exit;
+use sunderwath_tests::cases;
+
+fn main() {
+    let mut arguments = std::env::args().skip(1);
+    let (Some(file), None) = (arguments.next(), arguments.next()) else {
+        eprintln!("usage: make_cases FILE");
+        exit(2);
+    };
+    if let Err(error) = std::fs::write(&file, cases::input()) {
+        eprintln!("{file}: {error}");
+        exit(1);
+    }
+    print!("{}", cases::output());
+}

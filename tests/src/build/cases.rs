@@ -1,0 +1,120 @@
+//! The boards that the program `cases` runs, each with a label.
+
+use super::faults::{faults, with_faults};
+use super::shapes::{fill_up, regular_board};
+use super::worked::{self, cores, leaf, nested};
+use super::{cell, Board, Node};
+
+pub type Case = (String, Board);
+
+fn case(label: &str, width: u32, root: &Node) -> Case {
+    (label.to_string(), Board::of(width, root))
+}
+
+/// All cases, in the order in which they are run.
+pub fn all() -> Vec<Case> {
+    let groups = [worked_boards(), allowed(), slips(), limits(), rules()];
+    groups.into_iter().flatten().collect()
+}
+
+/// The whole case of the scope, and the examples of document 000.
+fn worked_boards() -> Vec<Case> {
+    vec![
+        case("whole case", 64, &worked::whole_case()),
+        case("example 1", 64, &worked::example_1()),
+        case("example 2", 32, &worked::example_2()),
+        case("example 3", 64, &worked::example_3()),
+        case(
+            "example 3, cpu0 corrected",
+            64,
+            &worked::example_3_corrected(),
+        ),
+        case(
+            "example 3, no phandle of CPU4",
+            64,
+            &worked::example_3_without_phandle(),
+        ),
+    ]
+}
+
+/// What the scope allows in words, and what stands right beside it.
+fn allowed() -> Vec<Case> {
+    let lone = worked::lone_socket();
+    let path = ["cpu-map", "socket0", "cluster0", "core0"];
+    let core = lone.find(&path).expect("it is there");
+    let mut named = lone.clone();
+    named.at(core).set("cpu", cell(3));
+    let mut below = lone.clone();
+    below.at(core + 1).children.push(leaf("thread0", 3));
+    let mut under_map = cores(&[0]);
+    under_map.at(1).children = vec![leaf("core0", 1)];
+    let mut beside = lone.clone();
+    beside.at(1).children.push(Node::new("cluster1"));
+    vec![
+        case("one cpu", 64, &cores(&[0x7])),
+        case("one lone socket, cores with and without threads", 32, &lone),
+        case("a cpu property on a core with children", 32, &named),
+        case("a thread with a child", 32, &below),
+        case("a core under the map", 64, &under_map),
+        case("a cluster beside a socket", 32, &beside),
+    ]
+}
+
+/// Boards that a reader with one of the slips answers otherwise.
+fn slips() -> Vec<Case> {
+    vec![
+        case("no socket is no socket 0", 64, &cores(&[0x0, 0x1])),
+        case("H4 as a board", 64, &cores(&[0x2, 0x80])),
+        case("H5 as a board", 64, &cores(&[0xF00, 0xF01, 0xF02, 0xF03])),
+        case("H6 as a board", 64, &cores(&[0x0, 0xFF_00FF_FFFF])),
+        case("H7 as a board", 64, &cores(&[0x0, 0x5])),
+        case(
+            "cluster0 and then core1",
+            64,
+            &worked::cluster_beside_core(),
+        ),
+        case("rows before rule 26", 64, &worked::unmapped_cpu()),
+    ]
+}
+
+/// The last board within each limit and the first beyond it.
+fn limits() -> Vec<Case> {
+    let mut cases = vec![
+        case("four nested clusters", 64, &nested(4)),
+        case("five nested clusters", 64, &nested(5)),
+        case("256 cpus", 64, &regular_board(256)),
+        case("257 cpus", 64, &regular_board(257)),
+    ];
+    for (label, records) in [("1,024 records", 1024), ("1,025 records", 1025)] {
+        let mut root = regular_board(2);
+        fill_up(&mut root, records, 0);
+        cases.push(case(label, 64, &root));
+    }
+    let small = Board::of(64, &worked::whole_case());
+    // The added properties are all zeros, which rule 7 refuses.
+    for (label, props) in [("4,096 properties", 4096), ("4,097 properties", 4097)] {
+        let mut board = small.clone();
+        board.props.resize(5 * props, 0);
+        cases.push((label.to_string(), board));
+    }
+    for (label, bytes) in [("65,536 bytes", 65536), ("65,537 bytes", 65537)] {
+        let mut board = small.clone();
+        board.pool.resize(bytes, 0);
+        cases.push((label.to_string(), board));
+    }
+    for (label, room) in [("row words just enough", 24), ("a row word short", 23)] {
+        let board = small.clone();
+        cases.push((label.to_string(), Board { room, ..board }));
+    }
+    cases
+}
+
+/// Every number told, each for one change to a sound board.
+fn rules() -> Vec<Case> {
+    let sound = ("no rule broken".to_string(), with_faults(&[]));
+    let broken = faults().into_iter().map(|fault| {
+        let label = format!("rule {}: {}", fault.number, fault.what);
+        (label, with_faults(&[&fault]))
+    });
+    std::iter::once(sound).chain(broken).collect()
+}
