@@ -17,5 +17,10 @@ for name in list_test board_test; do
     "target/c/$name"
 done
 
+echo "== the examples of the README"
+gcc -std=c11 -Wall -Wextra -Werror -Iinclude examples/read_board.c target/staticlib/libexports.a -o target/c/read_board
+rustc -O -L target/staticlib -l static=exports examples/list_slots.rs -o target/c/list_slots
+{ target/c/read_board; target/c/list_slots; } | diff - examples/expected.txt
+
 echo "== C under valgrind"
 valgrind --quiet --error-exitcode=1 target/c/board_test >/dev/null

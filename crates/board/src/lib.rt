@@ -1,13 +1,11 @@
 // The board reader: a board's tables in, rows and save slots out, or the number and the place of the first rule broken.
 use affinity::Hash;
+use rows::ROW_WORDS;
 ghost use mathlib.Core.Path.{_≡_};
 ghost use lib.ListN.{length};
 ghost use Rattle.tables.specs.Board.{board};
 ghost use Rattle.board.specs.Answer.{refusedWith, answerOf, rowsAfter};
 ghost use Rattle.board.specs.Reading.{Demands};
-
-// The words of a row.
-const ROW_WORDS: usize = 12;
 
 // Number 0 and place 0, with the count of rows and the hash of the MPIDRs; or a refusal, in which these are 0.
 pub struct BoardAnswer {

@@ -1,10 +1,8 @@
 // The words of a row buffer.
 use crate::say;
+use rows::ROW_WORDS;
+use topology::GAP;
 ghost use Rattle.io.specs.Counts.{Counts};
-
-const GAP: u32 = 0xFFFFFFFF;
-
-const ROW_WORDS: usize = 12;
 
 // What the row buffer holds before a board is read.
 pub const UNTOUCHED: u32 = 0x5AFEC0DE;

@@ -7,6 +7,7 @@ mod root;
 mod scan;
 mod value;
 
+pub use limits::MAX_CPUS;
 pub use node::is_child;
 pub use node::is_cpu;
 pub use scan::read_cpus;

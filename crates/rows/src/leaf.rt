@@ -1,12 +1,10 @@
 // The row of one leaf.
 use crate::Row;
 use names::TopologyName;
+use topology::GAP;
 ghost use mathlib.Core.Path.{_≡_};
 ghost use Rattle.topology.specs.Check.{topologyNumber};
 ghost use Rattle.rows.specs.Row.{coreOf, threadOf, rowOf};
-
-// What a row holds where the map states nothing.
-const GAP: u32 = 0xFFFFFFFF;
 
 // The number of a topology name, 0 where it is none.
 fn number_of(name: TopologyName) -> u32

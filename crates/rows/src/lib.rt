@@ -5,6 +5,9 @@ mod write;
 pub use leaf::row_of;
 pub use write::write_rows;
 
+// The words of a row.
+pub const ROW_WORDS: usize = 12;
+
 // What a row holds. Words that the map states nothing for are 0xFFFFFFFF.
 pub struct Row {
     pub leaf: u32,

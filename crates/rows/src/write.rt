@@ -1,4 +1,5 @@
 // Writing rows: each into its own words of the lent buffer.
+use crate::ROW_WORDS;
 use crate::Row;
 use crate::leaf::row_of;
 use affinity::Hash;
@@ -11,9 +12,6 @@ ghost use lib.ListN.{length, drop, getD};
 ghost use Rattle.rows.specs.Fits.{rowSize};
 ghost use Rattle.rows.specs.Row.{rowWords};
 ghost use Rattle.rows.specs.Write.{hasRoom, written, source, rowFrom};
-
-// The words of a row.
-const ROW_WORDS: usize = 12;
 
 // Writes a row at the start of a part of the row buffer.
 fn put_row(part: &mut [u32], row: Row)

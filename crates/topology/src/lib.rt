@@ -9,6 +9,7 @@ mod scan;
 mod shape;
 
 pub use find::find_map;
+pub use path::GAP;
 pub use path::cluster_path;
 pub use path::socket_number;
 pub use path::topology_name;

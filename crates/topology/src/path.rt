@@ -8,6 +8,9 @@ use tables::parent_of;
 ghost use mathlib.Core.Path.{_≡_};
 ghost use Rattle.topology.specs.Path.{topologyName, noClusters, extend, clusterStep, clusterPath, socketStep, socketNumber};
 
+// What a row holds where the map states nothing.
+pub const GAP: u32 = 0xFFFFFFFF;
+
 // What record i's name says. Other where it is no record or its name leaves the pool.
 pub fn topology_name(nodes: &[u32], pool: &[u8], i: usize) -> TopologyName
     ensures { λ r. ⌜ r ≡ topologyName (now (nodes .entry)) (now (pool .entry)) i ⌝ }
@@ -32,7 +35,7 @@ impl ClusterPath {
         ensures { λ r. ⌜ r ≡ noClusters ⌝ }
     {
         Self {
-            numbers: [0xFFFFFFFF; 4],
+            numbers: [GAP; 4],
             depth: 0,
         }
     }
@@ -93,7 +96,7 @@ pub fn socket_number(nodes: &[u32], pool: &[u8], i: usize) -> u32
 {
     let parent = parent_of(nodes, i);
     let Parent::Is(p) = parent else {
-        return 0xFFFFFFFF;
+        return GAP;
     };
     socket_step(topology_name(nodes, pool, i), socket_number(nodes, pool, p))
 }

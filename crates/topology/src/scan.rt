@@ -3,6 +3,7 @@ use crate::TreeScan;
 use crate::gather::gather;
 use crate::gather::is_among;
 use crate::gather::refuse;
+use cpus::MAX_CPUS;
 use cpus::is_cpu;
 use laws::Fault;
 ghost use mathlib.Core.Path.{_≡_};
@@ -10,9 +11,6 @@ ghost use Rattle.laws.specs.Fault.{firstFault};
 ghost use Rattle.tables.specs.Board.{nodeCount};
 ghost use Rattle.topology.specs.Scan.{tree, treeScan};
 ghost use Rattle.topology.specs.Pass.{unnamedFault};
-
-// The limit of rule 10.
-const MAX_CPUS: usize = 256;
 
 // The lowest cpu record that breaks rule 26: its index among the cpu records is none of those that the leaves name.
 fn first_unmapped(nodes: &[u32], pool: &[u8], cpus: &[usize]) -> Fault
