@@ -6,20 +6,14 @@ use super::slot::slot_of;
 use crate::Hash;
 use crate::ListHash;
 use crate::ListSlot;
+use laws::BAD_LIST_LENGTH;
 use laws::Fault;
+use laws::NOT_LISTED;
+use laws::OUTSIDE_BITS;
 ghost use mathlib.Core.Path.{_≡_};
 ghost use Rattle.affinity.specs.List.{firstOutside, maskAnswer, hashAnswer, isListed, slotAnswer};
 
 const MOST_LISTED: usize = 256;
-
-// Told of a list that is empty or longer than that.
-const BAD_LENGTH: u32 = 28;
-
-// Told of an MPIDR with a bit outside the affinity bits.
-const OUTSIDE_BITS: u32 = 29;
-
-// Told of an MPIDR that is not in the list.
-const UNKNOWN: u32 = 30;
 
 // The mask of a list, or the number and the place of what is wrong with it.
 struct ListMask {
@@ -67,7 +61,7 @@ pub fn list_slot(mpidr: u64, list: &[u64]) -> ListSlot
     }
     if !is_listed(list, mpidr) {
         return ListSlot {
-            number: UNKNOWN,
+            number: NOT_LISTED,
             place: 0,
             slot: 0,
         };
@@ -86,14 +80,14 @@ fn list_mask(list: &[u64]) -> ListMask
 {
     if list.len() == 0 {
         return ListMask {
-            number: BAD_LENGTH,
+            number: BAD_LIST_LENGTH,
             place: 0,
             mask: 0,
         };
     }
     if MOST_LISTED < list.len() {
         return ListMask {
-            number: BAD_LENGTH,
+            number: BAD_LIST_LENGTH,
             place: 0,
             mask: 0,
         };

@@ -1,5 +1,6 @@
 // The board reader: a board's tables in, rows and save slots out, or the number and the place of the first rule broken.
 use affinity::Hash;
+use laws::NO_ROOM;
 use rows::ROW_WORDS;
 ghost use mathlib.Core.Path.{_≡_};
 ghost use lib.ListN.{length};
@@ -72,7 +73,7 @@ pub fn read_tables(
         return refused(tree.number, tree.place);
     }
     if rows.len() / ROW_WORDS < count {
-        return refused(27, 0);
+        return refused(NO_ROOM, 0);
     }
     let mpidrs = cpus.mpidrs;
     let leaves = tree.leaves;

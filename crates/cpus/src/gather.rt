@@ -4,6 +4,8 @@ use crate::Reading;
 use crate::Wanted;
 use crate::node::is_cpu;
 use crate::read::read_record;
+use laws::BAD_PHANDLE;
+use laws::REPEATED_REG;
 ghost use mathlib.Core.Path.{_≡_};
 ghost use Prim.Native.Nat.{_≤_};
 ghost use Rattle.laws.specs.Search.{countBelow};
@@ -30,8 +32,8 @@ fn repeat_rule(wanted: Wanted) -> u32
     ensures { λ r. ⌜ r ≡ repeatRule wanted ⌝ }
 {
     match wanted {
-        Wanted::Mpidrs(_) => 13,
-        Wanted::Phandles => 17,
+        Wanted::Mpidrs(_) => REPEATED_REG,
+        Wanted::Phandles => BAD_PHANDLE,
     }
 }
 

@@ -6,6 +6,9 @@ use crate::Wanted;
 use crate::value::cell_of;
 use crate::value::has_value;
 use crate::value::mpidr_of;
+use laws::BAD_DEVICE_TYPE;
+use laws::BAD_PHANDLE;
+use laws::BAD_REG;
 ghost use mathlib.Core.Path.{_≡_};
 ghost use Rattle.cpus.specs.Check.{phandleIn};
 ghost use Rattle.cpus.specs.Gather.{mpidrReading, phandleReading, readingOf};
@@ -20,7 +23,7 @@ fn mpidr_reading(mpidr: Mpidr) -> Reading
             value: m,
         },
         Mpidr::Not => Reading {
-            number: 12,
+            number: BAD_REG,
             value: 0,
         },
     }
@@ -52,7 +55,7 @@ fn phandle_reading(phandle: Cell) -> Reading
             value: h as u64,
         },
         Cell::Not => Reading {
-            number: 17,
+            number: BAD_PHANDLE,
             value: 0,
         },
     }
@@ -69,7 +72,7 @@ pub fn read_record(wanted: Wanted, props: &[u32], pool: &[u8], i: usize) -> Read
         return mpidr_reading(mpidr_of(props, pool, cells, i));
     }
     Reading {
-        number: 11,
+        number: BAD_DEVICE_TYPE,
         value: 0,
     }
 }

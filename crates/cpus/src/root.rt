@@ -3,6 +3,8 @@ use crate::Cell;
 use crate::limits::MAX_CPUS;
 use crate::node::is_cpu;
 use crate::value::cell_of;
+use laws::BAD_CPU_COUNT;
+use laws::BAD_CPUS_NODE;
 use tables::name_is;
 ghost use mathlib.Core.Path.{_≡_};
 ghost use Rattle.laws.specs.Search.{countBelow};
@@ -52,15 +54,15 @@ pub fn root_fault(width: u32, nodes: &[u32], props: &[u32], pool: &[u8]) -> u32
     ensures { λ r. ⌜ r ≡ rootFault (board width (now (nodes .entry)) (now (props .entry)) (now (pool .entry))) ⌝ }
 {
     if !name_is(nodes, pool, 0, b"cpus") {
-        return 9;
+        return BAD_CPUS_NODE;
     }
     if address_cells(width, props, pool) == 0 {
-        return 9;
+        return BAD_CPUS_NODE;
     }
     if is_zero_cell(cell_of(props, pool, 0, b"#size-cells")) {
         return 0;
     }
-    9
+    BAD_CPUS_NODE
 }
 
 // The number of cpu records.
@@ -86,10 +88,10 @@ pub fn count_fault(count: usize) -> u32
     ensures { λ r. ⌜ r ≡ countFault count ⌝ }
 {
     if count == 0 {
-        return 10;
+        return BAD_CPU_COUNT;
     }
     if MAX_CPUS < count {
-        return 10;
+        return BAD_CPU_COUNT;
     }
     0
 }

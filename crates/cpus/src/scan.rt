@@ -11,6 +11,7 @@ use crate::root::address_cells;
 use crate::root::count_cpus;
 use crate::root::count_fault;
 use crate::root::root_fault;
+use laws::BAD_CPU_COUNT;
 ghost use mathlib.Core.Path.{_≡_};
 ghost use Rattle.tables.specs.Board.{board};
 ghost use Rattle.cpus.specs.Check.{cpuScan, phandleScan};
@@ -67,7 +68,7 @@ pub fn read_phandles(nodes: &[u32], props: &[u32], pool: &[u8]) -> PhandleScan
     ensures { λ r. ⌜ r ≡ phandleScan (now (nodes .entry)) (now (props .entry)) (now (pool .entry)) ⌝ }
 {
     if MAX_CPUS < count_cpus(nodes, pool) {
-        return phandles_in(refuse(10, 0));
+        return phandles_in(refuse(BAD_CPU_COUNT, 0));
     }
     phandles_in(gather(Wanted::Phandles, nodes, props, pool))
 }

@@ -2,6 +2,7 @@
 use crate::answer::ANSWER_WORDS;
 use crate::answer::no_hash;
 use crate::answer::put_answer;
+use laws::SHORT_ANSWER;
 use tables::Lookup;
 ghost use mathlib.Core.Path.{_≡_};
 ghost use Rattle.tables.specs.Board.{board};
@@ -26,7 +27,7 @@ pub extern "C" fn sunderwath_check_tables(
         ≡ answered (now (answer .entry)) (checkWords (board width (now (nodes .entry)) (now (props .entry)) (now (pool .entry)))) ⌝ }
 {
     if answer.len() < ANSWER_WORDS {
-        return 49;
+        return SHORT_ANSWER;
     }
     let fault = tables::table_fault(width, nodes, props, pool);
     put_answer(answer, fault.number, fault.place as u32, 0, no_hash());

@@ -2,6 +2,7 @@
 use crate::answer::ANSWER_WORDS;
 use crate::answer::no_hash;
 use crate::answer::put_answer;
+use laws::SHORT_ANSWER;
 ghost use mathlib.Core.Path.{_≡_};
 ghost use Rattle.affinity.specs.List.{hashAnswer, slotAnswer};
 ghost use Rattle.exports.specs.Answer.{orShort, answered};
@@ -14,7 +15,7 @@ pub extern "C" fn sunderwath_list_hash(list: &[u64], answer: &mut [u32]) -> u32
     ensures answer { λ _. ⌜ now (answer .exit) ≡ answered (now (answer .entry)) (hashWords (now (list .entry))) ⌝ }
 {
     if answer.len() < ANSWER_WORDS {
-        return 49;
+        return SHORT_ANSWER;
     }
     let found = affinity::list_hash(list);
     let hash = found.hash;
@@ -29,7 +30,7 @@ pub extern "C" fn sunderwath_list_slot(mpidr: u64, list: &[u64], answer: &mut [u
     ensures answer { λ _. ⌜ now (answer .exit) ≡ answered (now (answer .entry)) (slotWords mpidr (now (list .entry))) ⌝ }
 {
     if answer.len() < ANSWER_WORDS {
-        return 49;
+        return SHORT_ANSWER;
     }
     let found = affinity::list_slot(mpidr, list);
     put_answer(

@@ -1,6 +1,7 @@
 // The reading call.
 use crate::answer::ANSWER_WORDS;
 use crate::answer::put_answer;
+use laws::SHORT_ANSWER;
 ghost use mathlib.Core.Path.{_≡_};
 ghost use lib.ListN.{length};
 ghost use Rattle.tables.specs.Board.{board};
@@ -29,7 +30,7 @@ pub extern "C" fn sunderwath_read_tables(
         ⌜ now (answer .exit) ≡ answered (now (answer .entry)) (boardWords (answerOf b (length (now (rows .entry))))) ⌝ }
 {
     if answer.len() < ANSWER_WORDS {
-        return 49;
+        return SHORT_ANSWER;
     }
     let found = board::read_tables(width, nodes, props, pool, rows);
     let hash = found.hash;

@@ -4,6 +4,8 @@ use crate::limits::NO_PARENT;
 use crate::pool::sound_name;
 use crate::tree::is_below;
 use crate::words::node_word;
+use laws::BAD_NODE_NAME;
+use laws::BAD_PARENT;
 use laws::Fault;
 ghost use mathlib.Core.Path.{_≡_};
 ghost use Rattle.laws.specs.Fault.{firstFault};
@@ -34,10 +36,10 @@ fn node_fault(nodes: &[u32], bytes: usize, i: usize) -> u32
     let named = sound_name(bytes, MAX_NODE_NAME, offset, len);
     let placed = sound_parent(nodes, i);
     if !named {
-        return 5;
+        return BAD_NODE_NAME;
     }
     if !placed {
-        return 6;
+        return BAD_PARENT;
     }
     0
 }

@@ -7,7 +7,9 @@ use crate::property::may_be;
 use crate::starts::start_of;
 use crate::words::prop_word;
 use crate::words::wide;
+use laws::BAD_PROPERTY;
 use laws::Fault;
+use laws::REPEATED_PROPERTY;
 ghost use mathlib.Core.Path.{_≡_};
 ghost use Rattle.laws.specs.Fault.{firstFault};
 ghost use Rattle.tables.specs.Board.{propCount};
@@ -42,7 +44,7 @@ pub fn first_property_fault(count: usize, props: &[u32], pool: &[u8]) -> Fault
     let mut k: usize = 0;
     'pairs: while k < n {
         if !sound_property(count, props, pool.len(), k) {
-            let number = 7;
+            let number = BAD_PROPERTY;
             return Fault { number, place: k };
         }
         let node = prop_word(props, k, 0);
@@ -63,7 +65,7 @@ pub fn first_property_fault(count: usize, props: &[u32], pool: &[u8]) -> Fault
     }
     if k < n {
         return Fault {
-            number: 8,
+            number: REPEATED_PROPERTY,
             place: k,
         };
     }

@@ -2,6 +2,10 @@
 use crate::limits::MAX_NODES;
 use crate::limits::MAX_POOL;
 use crate::limits::MAX_PROPERTIES;
+use laws::BAD_NODE_TABLE;
+use laws::BAD_POOL;
+use laws::BAD_PROPERTY_TABLE;
+use laws::BAD_WIDTH;
 ghost use mathlib.Core.Path.{_≡_};
 ghost use Rattle.laws.specs.Fault.{orNumber};
 ghost use Rattle.tables.specs.Check.{widthFault, nodeWordsFault, propWordsFault, poolFault};
@@ -15,7 +19,7 @@ fn width_fault(width: u32) -> u32
     if width == 64 {
         return 0;
     }
-    1
+    BAD_WIDTH
 }
 
 fn node_words_fault(words: usize) -> u32
@@ -23,14 +27,14 @@ fn node_words_fault(words: usize) -> u32
 {
     if words % 3 == 0 {
         if words == 0 {
-            return 2;
+            return BAD_NODE_TABLE;
         }
         if 3 * MAX_NODES < words {
-            return 2;
+            return BAD_NODE_TABLE;
         }
         return 0;
     }
-    2
+    BAD_NODE_TABLE
 }
 
 fn prop_words_fault(words: usize) -> u32
@@ -38,18 +42,18 @@ fn prop_words_fault(words: usize) -> u32
 {
     if words % 5 == 0 {
         if 5 * MAX_PROPERTIES < words {
-            return 3;
+            return BAD_PROPERTY_TABLE;
         }
         return 0;
     }
-    3
+    BAD_PROPERTY_TABLE
 }
 
 fn pool_fault(bytes: usize) -> u32
     ensures { λ r. ⌜ r ≡ poolFault bytes ⌝ }
 {
     if MAX_POOL < bytes {
-        return 4;
+        return BAD_POOL;
     }
     0
 }

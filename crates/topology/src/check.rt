@@ -10,6 +10,8 @@ use crate::path::topology_name;
 use crate::shape::group_fault;
 use crate::shape::number_fault;
 use crate::shape::shape_fault;
+use laws::BAD_MAP_NAME;
+use laws::NAME_OUTSIDE_MAP;
 use names::TopologyName;
 use tables::is_below;
 use tables::node_word;
@@ -27,7 +29,7 @@ fn map_record_fault(nodes: &[u32], pool: &[u8], map: usize, i: usize, name: Topo
     ensures { λ r. ⌜ r ≡ mapRecordFault (now (nodes .entry)) (now (pool .entry)) map i name ⌝ }
 {
     if kind_number(name) == 0 {
-        return 19;
+        return BAD_MAP_NAME;
     }
     let p = node_word(nodes, i, 0);
     let number = kind_fault(nodes, pool, map, p, name);
@@ -71,7 +73,7 @@ fn stray_fault(name: TopologyName) -> u32
     if kind_number(name) == 0 {
         return 0;
     }
-    18
+    NAME_OUTSIDE_MAP
 }
 
 // What record i breaks of 18 to 24, and the cpu that it names where it is a leaf.

@@ -2,6 +2,8 @@
 use crate::MapScan;
 use cpus::is_child;
 use laws::Fault;
+use laws::NO_MAP;
+use laws::SECOND_MAP;
 use tables::name_is;
 ghost use mathlib.Core.Path.{_≡_};
 ghost use Rattle.laws.specs.Fault.{firstFault};
@@ -42,7 +44,7 @@ fn second_map_fault(nodes: &[u32], pool: &[u8], map: usize, i: usize) -> u32
         if i == map {
             return 0;
         }
-        return 16;
+        return SECOND_MAP;
     }
     0
 }
@@ -76,7 +78,7 @@ pub fn find_map(nodes: &[u32], pool: &[u8]) -> MapScan
     let map = lowest_map(nodes, pool);
     if nodes.len() / 3 <= map {
         return MapScan {
-            number: 15,
+            number: NO_MAP,
             place: 0,
             map: 0,
         };

@@ -3,6 +3,7 @@ use crate::Leaves;
 use crate::RecordCheck;
 use crate::TreeScan;
 use crate::check::record_check;
+use laws::REPEATED_LEAF_CPU;
 ghost use mathlib.Core.Path.{_≡_};
 ghost use Prim.Native.Nat.{_≤_};
 ghost use lib.ListN.{length};
@@ -35,7 +36,7 @@ fn checked_fault(earlier: &[usize], check: RecordCheck) -> u32
         return 0;
     }
     if is_among(earlier, check.cpu) {
-        return 25;
+        return REPEATED_LEAF_CPU;
     }
     0
 }

@@ -1,5 +1,6 @@
 // Kinds of the map's records and which may stand under which: rule 20.
 use crate::path::topology_name;
+use laws::BAD_KIND;
 use names::TopologyName;
 ghost use mathlib.Core.Path.{_≡_};
 ghost use mathlib.Core.Bool.{cond};
@@ -99,5 +100,5 @@ pub fn kind_fault(nodes: &[u32], pool: &[u8], map: usize, p: usize, name: Topolo
             return 0;
         }
     }
-    20
+    BAD_KIND
 }

@@ -3,6 +3,7 @@ use crate::RecordCheck;
 use crate::shape::has_child;
 use cpus::Cell;
 use cpus::cell_of;
+use laws::BAD_LEAF_CPU;
 use names::TopologyName;
 ghost use mathlib.Core.Path.{_≡_};
 ghost use lib.Dec.{eqb};
@@ -75,5 +76,5 @@ pub fn leaf_check(none: usize, k: usize) -> RecordCheck
             cpu: k,
         };
     }
-    no_leaf(24, none)
+    no_leaf(BAD_LEAF_CPU, none)
 }

@@ -5,7 +5,9 @@ use crate::gather::is_among;
 use crate::gather::refuse;
 use cpus::MAX_CPUS;
 use cpus::is_cpu;
+use laws::BAD_CPU_COUNT;
 use laws::Fault;
+use laws::UNMAPPED_CPU;
 ghost use mathlib.Core.Path.{_≡_};
 ghost use Rattle.laws.specs.Fault.{firstFault};
 ghost use Rattle.tables.specs.Board.{nodeCount};
@@ -28,7 +30,7 @@ fn first_unmapped(nodes: &[u32], pool: &[u8], cpus: &[usize]) -> Fault
         }
         if !is_among(cpus, index) {
             return Fault {
-                number: 26,
+                number: UNMAPPED_CPU,
                 place: i,
             };
         }
@@ -52,7 +54,7 @@ pub fn read_tree(
     ensures { λ r. ⌜ r ≡ treeScan (tree (now (nodes .entry)) (now (props .entry)) (now (pool .entry)) map (now (phandles .entry))) ⌝ }
 {
     if MAX_CPUS < phandles.len() {
-        return refuse(10, 0);
+        return refuse(BAD_CPU_COUNT, 0);
     }
     let scan = gather(nodes, props, pool, map, phandles);
     if scan.number != 0 {

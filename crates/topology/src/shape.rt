@@ -2,6 +2,10 @@
 use crate::kind::topology_number;
 use crate::path::cluster_path;
 use cpus::is_child;
+use laws::BAD_MAP_NAME;
+use laws::BAD_NUMBER;
+use laws::NO_CHILDREN;
+use laws::TOO_DEEP;
 use names::TopologyName;
 ghost use mathlib.Core.Path.{_≡_};
 ghost use Prim.Native.Nat.{_<_};
@@ -44,7 +48,7 @@ pub fn number_fault(nodes: &[u32], p: usize, i: usize, name: TopologyName) -> u3
     if topology_number(name) as usize == count_children(nodes, p, i) {
         return 0;
     }
-    21
+    BAD_NUMBER
 }
 
 // 23 where record i has no children, or 0.
@@ -54,7 +58,7 @@ pub fn group_fault(nodes: &[u32], i: usize) -> u32
     if has_child(nodes, i) {
         return 0;
     }
-    23
+    NO_CHILDREN
 }
 
 // 22 where a cluster under record p has four clusters above it, or 0.
@@ -65,7 +69,7 @@ fn depth_fault(nodes: &[u32], pool: &[u8], p: usize) -> u32
     if path.depth < 4 {
         return 0;
     }
-    22
+    TOO_DEEP
 }
 
 // What cluster i, a child of p, breaks of 22 and 23.
@@ -90,6 +94,6 @@ pub fn shape_fault(nodes: &[u32], pool: &[u8], p: usize, i: usize, name: Topolog
         TopologyName::Cluster(_) => cluster_fault(nodes, pool, p, i),
         TopologyName::Core(_) => 0,
         TopologyName::Thread(_) => 0,
-        TopologyName::Other => 19,
+        TopologyName::Other => BAD_MAP_NAME,
     }
 }
