@@ -7,5 +7,6 @@ pub mod FaultMeans
 pub mod CpuGives
 pub mod RuleMeans
 pub mod CpuTells
+pub mod PartLaws
 pub mod CodeLaws
 pub mod ScanLaws

@@ -6,6 +6,8 @@ use crate::node::is_cpu;
 use crate::read::read_record;
 use laws::BAD_PHANDLE;
 use laws::REPEATED_REG;
+use tables::index_properties;
+use tables::part_start;
 ghost use mathlib.Core.Path.{_≡_};
 ghost use Prim.Native.Nat.{_≤_};
 ghost use Rattle.laws.specs.Search.{countBelow};
@@ -78,6 +80,7 @@ pub fn gather(wanted: Wanted, nodes: &[u32], props: &[u32], pool: &[u8]) -> Gath
         ⌜ r ≡ gathered (isCpu table bytes) (readingOf wanted (now (props .entry)) bytes) (repeatRule wanted) (nodeCount table) ⌝ }
 {
     let n = nodes.len() / 3;
+    let index = index_properties(props);
     let mut records = [0usize; 256];
     let mut values = [0u64; 256];
     let mut count: usize = 0;
@@ -87,7 +90,8 @@ pub fn gather(wanted: Wanted, nodes: &[u32], props: &[u32], pool: &[u8]) -> Gath
             i += 1;
             continue;
         }
-        let reading = next_reading(wanted, props, pool, &values[..count], i);
+        let start = part_start(&index.starts, props.len(), i);
+        let reading = next_reading(wanted, &props[start..], pool, &values[..count], i);
         if reading.number != 0 {
             return refuse(reading.number, i);
         }

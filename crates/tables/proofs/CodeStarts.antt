@@ -3,7 +3,7 @@ use mathlib.Core.Path.{_≡_, refl, ap, _∙_}
 use mathlib.Core.Bool.{Bool, true, false}
 use mathlib.Core.List.{List}
 use mathlib.Core.Logic.{⊎-elim}
-use Prim.Native.Nat.{ℕ, _+_, _*_, _%_, _≤_, _<_, min}
+use Prim.Native.Nat.{ℕ, _+_, _*_, _≤_, _<_, min}
 use native.Mathlib.Omega.{arith}
 use lib.Dec.{eqb}
 use lib.ListN.{length, getD, set}
@@ -14,12 +14,10 @@ use Rattle.laws.proofs.SearchLaws.{any-place, lt-or-le}
 use Rattle.laws.proofs.TestLaws.{both-true, false-unless}
 use Rattle.tables.specs.Board.{propNode}
 use Rattle.tables.specs.Check.{sameProperty}
+use Rattle.tables.specs.Starts.{placeOf}
 use Rattle.tables.proofs.CodePool.{word-zero}
 
--- the place of a node, and the property noted there
-abbrev placeOf : ℕ → ℕ
-placeOf node = node % 1024
-
+-- the property noted at a node's place
 abbrev noted : List ℕ → ℕ → ℕ
 noted starts node = getD starts (placeOf node) 0
 

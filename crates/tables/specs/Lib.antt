@@ -3,6 +3,7 @@ pub mod Board
 pub mod Limits
 pub mod Tree
 pub mod Property
+pub mod Starts
 pub mod Order
 pub mod Rules
 pub mod Check

@@ -4,6 +4,8 @@ use crate::RecordCheck;
 use crate::TreeScan;
 use crate::check::record_check;
 use laws::REPEATED_LEAF_CPU;
+use tables::index_properties;
+use tables::part_start;
 ghost use mathlib.Core.Path.{_≡_};
 ghost use Prim.Native.Nat.{_≤_};
 ghost use lib.ListN.{length};
@@ -62,12 +64,14 @@ pub fn gather(nodes: &[u32], props: &[u32], pool: &[u8], map: usize, phandles: &
     ensures { λ r. ⌜ r ≡ leafScan (tree (now (nodes .entry)) (now (props .entry)) (now (pool .entry)) map (now (phandles .entry))) ⌝ }
 {
     let n = nodes.len() / 3;
+    let index = index_properties(props);
     let mut records = [0usize; 256];
     let mut cpus = [0usize; 256];
     let mut count: usize = 0;
     let mut i: usize = 0;
     while i < n {
-        let check = record_check(nodes, props, pool, map, phandles, i);
+        let start = part_start(&index.starts, props.len(), i);
+        let check = record_check(nodes, &props[start..], pool, map, phandles, i);
         let number = checked_fault(&cpus[..count], check);
         if number != 0 {
             return refuse(number, i);
