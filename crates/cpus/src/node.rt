@@ -1,8 +1,12 @@
 // Cpu records: the children of record 0 named `cpu` or beginning `cpu@`.
+use tables::cell_at;
 use tables::node_word;
 use tables::range_is;
 ghost use mathlib.Core.Path.{_≡_};
 ghost use Rattle.cpus.specs.Check.{isChild, isCpuName, isCpu};
+
+// `cpu@` as a cell.
+const CPU_UNIT: u32 = 0x63707540;
 
 // Whether record i is a child of record p.
 pub fn is_child(nodes: &[u32], p: usize, i: usize) -> bool
@@ -21,13 +25,10 @@ pub fn is_child(nodes: &[u32], p: usize, i: usize) -> bool
 fn is_cpu_name(pool: &[u8], offset: usize, len: usize) -> bool
     ensures { λ r. ⌜ r ≡ isCpuName (now (pool .entry)) offset len ⌝ }
 {
-    if range_is(pool, offset, len, b"cpu") {
-        return true;
-    }
     if len < 4 {
-        return false;
+        return range_is(pool, offset, len, b"cpu");
     }
-    range_is(pool, offset, 4, b"cpu@")
+    cell_at(pool, offset) == CPU_UNIT
 }
 
 // Whether record i is a cpu record.

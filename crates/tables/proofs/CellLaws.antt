@@ -1,14 +1,17 @@
 -- Cells of the pool: four bytes, and the number that they hold. Assumes nothing.
-use mathlib.Core.Path.{_≡_, sym, _∙_}
+use mathlib.Core.Path.{_≡_, refl, sym, ap, _∙_}
 use mathlib.Core.Bool.{Bool, true, false, cond}
 use mathlib.Core.List.{List, [], _∷_}
 use Prim.Native.Nat.{ℕ, suc, _+_, _*_, _/_, _%_, _^_, _≤_, _<_}
 use native.Mathlib.Omega.{arith}
-use lib.Dec.{leb}
+use lib.Dec.{eqb, leb}
 use lib.ListN.{length, getD}
 use lib.Seq.{drop-cons}
-use borrow.Author.Tests.{le-leb}
-use Rattle.tables.specs.Board.{range}
+use borrow.Author.Tests.{le-leb, leb-true, eqb-true, eqb-false, ne-eqb}
+use Rattle.laws.specs.Same.{sameList}
+use Rattle.laws.proofs.SameLaws.{same-refl, same-equal}
+use Rattle.laws.proofs.TestLaws.{false-unless}
+use Rattle.tables.specs.Board.{range, rangeIs}
 use Rattle.tables.specs.Property.{cellBytes, cellAt}
 
 -- the number of four bytes
@@ -93,3 +96,27 @@ cell-lt pool at byte = go (leb (at + 4) (length pool))
     go : (t : Bool) → cond t (join (getD pool at 0) (getD pool (at + 1) 0) (getD pool (at + 2) 0) (getD pool (at + 3) 0)) 0 < 2 ^ 32
     go true = join-lt _ _ _ _ (byte at) (byte (at + 1)) (byte (at + 2)) (byte (at + 3))
     go false = omega arith
+
+cell-outside : (pool : List ℕ) (at : ℕ) → leb (at + 4) (length pool) ≡ false → cellAt pool at ≡ 0
+unfolding cellAt
+cell-outside pool at e = rw e
+
+-- the test of a cell is that of its four bytes; outside the pool 0 is read
+pub cell-is :
+    (pool : List ℕ) (at w : ℕ) →
+    ((i : ℕ) → getD pool i 0 < 256) →
+    w < 2 ^ 32 →
+    (w ≡ 0 → ⊥) →
+    eqb (cellAt pool at) w ≡ rangeIs pool at 4 (cellBytes w)
+unfolding rangeIs
+cell-is pool at w bytes small some = go (leb (at + 4) (length pool)) refl
+  where
+    go : (t : Bool) → leb (at + 4) (length pool) ≡ t → eqb (cellAt pool at) w ≡ cond t (sameList (range pool at 4) (cellBytes w)) false
+    go true e = let inside = leb-true (at + 4) (length pool) e in same-test inside (eqb (cellAt pool at) w) refl
+      where
+        same-test : at + 4 ≤ length pool → (t : Bool) → eqb (cellAt pool at) w ≡ t → t ≡ sameList (range pool at 4) (cellBytes w)
+        same-test inside true q =
+            let holds : range pool at 4 ≡ cellBytes w = cell-bytes pool at inside bytes ∙ ap cellBytes (eqb-true (cellAt pool at) w q) in
+            rw holds (sym (same-refl (cellBytes w)))
+        same-test inside false q = sym (false-unless _ (λ h. eqb-false (cellAt pool at) w q (cell-back pool at inside w small (same-equal (range pool at 4) (cellBytes w) h))))
+    go false e = rw (cell-outside pool at e) (ne-eqb 0 w (λ z. some (sym z)))
