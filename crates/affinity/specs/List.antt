@@ -6,7 +6,7 @@ use lib.Dec.{eqb, ltb}
 use lib.ListN.{length, getD}
 use Rattle.laws.specs.declared.Fault.{Fault}
 use Rattle.laws.specs.Fault.{firstFault, told, orElse}
-use Rattle.laws.specs.Search.{anyBelow}
+use Rattle.laws.specs.Search.{isAmong}
 use Rattle.affinity.specs.declared.Hash.{Hash}
 use Rattle.affinity.specs.declared.ListHash.{ListHash}
 use Rattle.affinity.specs.declared.ListSlot.{ListSlot}
@@ -50,13 +50,9 @@ hashAnswer list =
     cond (eqb (listFault list .number) 0) (record { number = 0; place = 0; hash = hashOf list })
     (record { number = listFault list .number; place = listFault list .place; hash = noHash })
 
--- whether an MPIDR stands in a list
-unfoldable pub isListed : List ℕ → ℕ → Bool
-isListed list mpidr = anyBelow (λ i. eqb (getD list i 0) mpidr) (length list)
-
 -- the answer to "one MPIDR's slot in a list": 28, 29, then 30 for an unknown one
 unfoldable pub slotAnswer : ℕ → List ℕ → ListSlot
 slotAnswer mpidr list =
     cond (eqb (listFault list .number) 0)
-    (cond (isListed list mpidr) (record { number = 0; place = 0; slot = slotIn list mpidr }) (record { number = 30; place = 0; slot = 0 }))
+    (cond (isAmong list mpidr) (record { number = 0; place = 0; slot = slotIn list mpidr }) (record { number = 30; place = 0; slot = 0 }))
     (record { number = listFault list .number; place = listFault list .place; slot = 0 })

@@ -10,8 +10,9 @@ use laws::BAD_LIST_LENGTH;
 use laws::Fault;
 use laws::NOT_LISTED;
 use laws::OUTSIDE_BITS;
+use laws::is_among;
 ghost use mathlib.Core.Path.{_≡_};
-ghost use Rattle.affinity.specs.List.{firstOutside, maskAnswer, hashAnswer, isListed, slotAnswer};
+ghost use Rattle.affinity.specs.List.{firstOutside, maskAnswer, hashAnswer, slotAnswer};
 
 const MOST_LISTED: usize = 256;
 
@@ -59,7 +60,7 @@ pub fn list_slot(mpidr: u64, list: &[u64]) -> ListSlot
             slot: 0,
         };
     }
-    if !is_listed(list, mpidr) {
+    if !is_among(list, mpidr) {
         return ListSlot {
             number: NOT_LISTED,
             place: 0,
@@ -126,18 +127,4 @@ fn first_outside(list: &[u64]) -> Fault
         number: 0,
         place: 0,
     }
-}
-
-// Whether an MPIDR stands in a list.
-fn is_listed(list: &[u64], mpidr: u64) -> bool
-    ensures { λ r. ⌜ r ≡ isListed (now (list .entry)) mpidr ⌝ }
-{
-    let mut i: usize = 0;
-    while i < list.len() {
-        if list[i] == mpidr {
-            return true;
-        }
-        i += 1;
-    }
-    false
 }

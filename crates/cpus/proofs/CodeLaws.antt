@@ -8,7 +8,7 @@ use lib.Dec.{leb, eqb}
 use lib.ListN.{length, take, set, replicate}
 use borrow.Author.Tests.{eq-eqb, ne-eqb, leb-true}
 use Rattle.laws.specs.Fault.{clear, firstFault}
-use Rattle.laws.specs.Search.{countBelow, listBelow}
+use Rattle.laws.specs.Search.{countBelow, listBelow, isAmong}
 use Rattle.laws.specs.Pad.{padded}
 use Rattle.laws.proofs.FaultLaws.{clear-more, at-fault}
 use Rattle.laws.proofs.SearchLaws.{count-yes, count-no, list-yes, list-no, list-length}
@@ -18,7 +18,7 @@ use Rattle.laws.proofs.TestLaws.{both-true}
 use Rattle.tables.specs.Board.{valueOffset, valueLength}
 use Rattle.cpus.specs.declared.Reading.{Reading}
 use Rattle.cpus.specs.Cell.{valueSized}
-use Rattle.cpus.specs.Gather.{isAmong, unlessSeen, refused, gatherFault, gathered}
+use Rattle.cpus.specs.Gather.{unlessSeen, refused, gatherFault, gathered}
 
 -- whether property k's value has so many cells
 module _ (props pool : List ℕ) (k cells : ℕ) where
@@ -73,7 +73,7 @@ module _ (p : ℕ → Bool) (r : ℕ → Reading) (rule : ℕ) where
       (h : Pass i count records values) (e : p i ≡ true) (room : count < 256)
       (made : x ≡ unlessSeen rule (isAmong (take count values) (number i)) (r i)) where
     pub pass-fault : x .number ≡ gatherFault p r rule i
-    unfolding gatherFault isAmong
+    unfolding gatherFault
     pass-fault =
         let front : take count values ≡ map number (listBelow p i) = ap (take count) (h .held) ∙ gathered-front p number 256 i count (h .counted) (omega arith) in
         let same = gathered-seen p number (λ j. eqb (number j) (number i)) (number i) i (λ j _ _. refl) in

@@ -43,10 +43,6 @@ abbrev pub repeatRule : Wanted → ℕ
 repeatRule (wanted.Mpidrs cells) = 13
 repeatRule wanted.Phandles = 17
 
--- whether a number stands in a list
-unfoldable pub isAmong : List ℕ → ℕ → Bool
-isAmong list m = anyBelow (λ k. eqb (getD list k 0) m) (length list)
-
 -- a reading, refused where its number was seen
 abbrev pub unlessSeen : ℕ → Bool → Reading → Reading
 unlessSeen rule seen r = cond (eqb (r .number) 0) (cond seen (reading rule (r .value)) r) r

@@ -6,28 +6,15 @@ use crate::node::is_cpu;
 use crate::read::read_record;
 use laws::BAD_PHANDLE;
 use laws::REPEATED_REG;
+use laws::is_among;
 use tables::index_properties;
 use tables::part_start;
 ghost use mathlib.Core.Path.{_≡_};
 ghost use Prim.Native.Nat.{_≤_};
-ghost use Rattle.laws.specs.Search.{countBelow};
+ghost use Rattle.laws.specs.Search.{countBelow, isAmong};
 ghost use Rattle.tables.specs.Board.{nodeCount};
 ghost use Rattle.cpus.specs.Check.{isCpu};
-ghost use Rattle.cpus.specs.Gather.{readingOf, repeatRule, isAmong, unlessSeen, refused, gathered};
-
-// Whether a number stands in a list.
-fn is_among(list: &[u64], number: u64) -> bool
-    ensures { λ r. ⌜ r ≡ isAmong (now (list .entry)) number ⌝ }
-{
-    let mut k: usize = 0;
-    while k < list.len() {
-        if list[k] == number {
-            return true;
-        }
-        k += 1;
-    }
-    false
-}
+ghost use Rattle.cpus.specs.Gather.{readingOf, repeatRule, unlessSeen, refused, gathered};
 
 // The rule that a repeated number breaks.
 fn repeat_rule(wanted: Wanted) -> u32

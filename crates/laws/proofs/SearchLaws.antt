@@ -124,6 +124,18 @@ module _ (p : ℕ → Bool) where
       go false e true f ih l = f
       go false e false f ih l = absurd (omega arith)
 
+  -- a place passes where the lowest is below n
+  pub lowest-any : (n : ℕ) → ltb (lowest p n) n ≡ anyBelow p n
+  lowest-any n = go (ltb (lowest p n) n) refl
+    where
+      go : (b : Bool) → ltb (lowest p n) n ≡ b → b ≡ anyBelow p n
+      go true e = let lt = ltb-true (lowest p n) n e in sym (any-at (lowest p n) n lt (lowest-passes n lt))
+      go false e = go′ (anyBelow p n) refl
+        where
+          go′ : (d : Bool) → anyBelow p n ≡ d → false ≡ d
+          go′ true f = let t = any-place n f in true-false (t .2) (lowest-below n (t .0) (omega (arith, t .1, ltb-false (lowest p n) n e)))
+          go′ false f = refl
+
   -- the places that pass: one place more
   pub list-yes : (i : ℕ) → p i ≡ true → listBelow p (i + 1) ≡ listBelow p i ++ (i ∷ [])
   unfolding listBelow

@@ -1,5 +1,6 @@
-// General laws that every other crate cites, and the one type that they are stated of.
+// What every other crate uses: general laws, the numbers of the rules, what is told of a broken one, and the search of a list.
 mod rules;
+mod search;
 
 pub use rules::BAD_CPU_COUNT;
 pub use rules::BAD_CPUS_NODE;
@@ -31,6 +32,8 @@ pub use rules::SECOND_MAP;
 pub use rules::SHORT_ANSWER;
 pub use rules::TOO_DEEP;
 pub use rules::UNMAPPED_CPU;
+pub use search::is_among;
+pub use search::place_in;
 
 // What a search for a broken rule tells: the rule's number and its place, or 0 and 0 where no rule is broken.
 pub struct Fault {

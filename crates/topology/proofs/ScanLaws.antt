@@ -1,17 +1,20 @@
 -- The two passes of the scan: what is gathered before a record, and what the passes answer. Assumes nothing.
 use mathlib.Core.Path.{_≡_, refl, sym, ap, ap₂, _∙_}
 use mathlib.Core.Bool.{Bool, true, false, cond}
+use mathlib.Core.Logic.{_⊎_, inl, inr}
 use mathlib.Core.List.{List, [], map}
 use Prim.Native.Nat.{ℕ, _+_, _≤_, _<_}
+use native.Mathlib.Numerals.{add-one}
 use native.Mathlib.Omega.{arith}
 use lib.Dec.{eqb}
-use lib.ListN.{length, take, set}
-use borrow.Author.Tests.{lt-ltb, le-ltb, eq-eqb, ne-eqb, eqb-true}
+use lib.ListN.{length, getD, set, replicate, length-set, length-replicate, getD-replicate, List·getD-eq-default}
+use lib.Seq.{getD-set-same, getD-set-other}
+use borrow.Author.Tests.{lt-ltb, le-ltb, eq-eqb, ne-eqb, eqb-true, eqb-false}
 use Rattle.laws.specs.declared.Fault.{Fault}
 use Rattle.laws.specs.Fault.{clear, orElse, orNumber, firstFault}
-use Rattle.laws.specs.Search.{countBelow, listBelow}
+use Rattle.laws.specs.Search.{anyBelow, countBelow, listBelow}
 use Rattle.laws.specs.Pad.{padded}
-use Rattle.laws.proofs.SearchLaws.{count-yes, count-no, list-no, list-length}
+use Rattle.laws.proofs.SearchLaws.{lt-or-le, count-yes, count-no, list-no, list-length}
 use Rattle.laws.proofs.FaultLaws.{clear-more, at-fault, at-end, or-first, or-second, first-is}
 use Rattle.laws.proofs.PadLaws.{pad-length}
 use Rattle.laws.proofs.PassLaws.{list-more}
@@ -22,7 +25,7 @@ use Rattle.cpus.specs.Rules.{maxCpus}
 use Rattle.topology.specs.declared.RecordCheck.{RecordCheck}
 use Rattle.topology.specs.declared.TreeScan.{TreeScan}
 use Rattle.topology.specs.Scan.{Tree, check, isLeaf, cpuOf, namedBelow, treeFault, unmappedFault, leavesFault, leafList, leavesOf, treeScan}
-use Rattle.topology.specs.Pass.{isAmong, checkedFault, refused, unlessTold, leafScan, unnamedFault}
+use Rattle.topology.specs.Pass.{isMarked, Marked, checkedFault, refused, unlessTold, leafScan, unnamedFault}
 use Rattle.topology.proofs.LeafCount.{leaves-fit}
 
 module _ (t : Tree) where
@@ -38,28 +41,19 @@ module _ (t : Tree) where
   unfolding firstFault countBelow listBelow
   gathered-none r c = record { clean = refl; counted = refl; fits = omega arith; records-are = r; cpus-are = c }
 
-  -- a cpu is among those gathered where a leaf names it
-  among-is :
-      (n count : ℕ) {cpus : List ℕ} (m : ℕ) →
-      cpus ≡ padded 256 (map (cpuOf t) (listBelow (isLeaf t) n)) →
-      count ≡ countBelow (isLeaf t) n →
-      count ≤ 256 →
-      isAmong (take count cpus) m ≡ namedBelow t n m
-  unfolding namedBelow
-  among-is n count m e k le =
-      ap (λ (l : List ℕ). isAmong l m) (ap (take count) e ∙ gathered-front (isLeaf t) (cpuOf t) 256 n count k le)
-      ∙ gathered-seen (isLeaf t) (cpuOf t) (λ j. eqb (cpuOf t j) m) m n (λ j lt h. refl)
+  pub marked-none : {marks : List ℕ} → marks ≡ replicate 256 0 → Marked t 0 marks
+  unfolding namedBelow anyBelow
+  marked-none {marks} e = record { size = ap length e ∙ length-replicate {A = ℕ} 256 0; each = λ k. ap (λ (l : List ℕ). isMarked l k) e ∙ go k (lt-or-le k 256) }
+    where
+      go : (k : ℕ) → (k < 256) ⊎ (256 ≤ k) → isMarked (replicate 256 0) k ≡ false
+      go k (inl lt) = rw (getD-replicate {A = ℕ} 256 k 0 0 lt)
+      go k (inr le) = rw (List·getD-eq-default {A = ℕ} (replicate 256 0) 0 {n = k} (rw (length-replicate {A = ℕ} 256 0) le))
 
   module _ {records cpus : List ℕ} {count i : ℕ} (g : Gathered records cpus count i) where
-    pub gathered-within : count ≤ length cpus
-    gathered-within = rw (g .cpus-are, pad-length 256 (map (cpuOf t) (listBelow (isLeaf t) i))) (g .fits)
-
-    pub fault-is : {r : RecordCheck} {v : ℕ} → r ≡ check t i → v ≡ checkedFault (take count cpus) r → v ≡ treeFault t i
+    pub fault-is : {marks : List ℕ} {r : RecordCheck} {v : ℕ} → Marked t i marks → r ≡ check t i → v ≡ checkedFault marks r → v ≡ treeFault t i
     unfolding treeFault
-    fault-is {r} e f =
-        f
-        ∙ ap (checkedFault (take count cpus)) e
-        ∙ ap (λ (b : Bool). orNumber (check t i .number) (cond (isLeaf t i) (cond b 25 0) 0)) (among-is i count (cpuOf t i) (g .cpus-are) (g .counted) (g .fits))
+    fault-is {marks} m e f =
+        f ∙ ap (checkedFault marks) e ∙ ap (λ (b : Bool). orNumber (check t i .number) (cond (isLeaf t i) (cond b 25 0) 0)) (m .each (cpuOf t i))
 
     -- record i breaks a rule
     pub gather-told : {v : ℕ} → i < nodeCount (t .nodes) → v ≡ treeFault t i → (v ≡ 0 → ⊥) → refused v i ≡ leafScan t
@@ -104,22 +98,33 @@ module _ (t : Tree) where
               cpus-are = ap₂ (λ (l : List ℕ) (x : ℕ). set l count x) (g .cpus-are) q ∙ gather-more (isLeaf t) (cpuOf t) 256 i count h (g .counted) gather-room;
             }
 
--- rule 26 at record i, by the indices that the leaves name
-module _ (nodes pool cpus : List ℕ) (i : ℕ) where
-  pub unnamed-not : isCpu nodes pool i ≡ false → unnamedFault nodes pool cpus i ≡ 0
+-- what is marked before record i + 1
+module _ (t : Tree) {marks : List ℕ} {i : ℕ} (m : Marked t i marks) where
+  pub mark-keep : isLeaf t i ≡ false → Marked t (i + 1) marks
+  unfolding namedBelow anyBelow
+  mark-keep h = record { size = m .size; each = λ k. m .each k ∙ sym (rw (add-one i, h)) }
+
+  pub mark-push : {c : ℕ} → c ≡ cpuOf t i → c < 256 → isLeaf t i ≡ true → Marked t (i + 1) (set marks c 1)
+  unfolding namedBelow anyBelow
+  mark-push {c} e lt h = record { size = length-set marks c 1 ∙ m .size; each = λ k. rw (add-one i, h, ← e) (go k (eqb c k) refl) }
+    where
+      go : (k : ℕ) (b : Bool) → eqb c k ≡ b → isMarked (set marks c 1) k ≡ cond b true (namedBelow t i k)
+      go k true q = let same = eqb-true c k q in rw (← same, getD-set-same marks c 1 0 (omega (arith, m .size)))
+      go k false q = rw (getD-set-other marks c k 1 0 (λ r. eqb-false c k q (sym r))) (m .each k)
+
+-- rule 26 at record i, by the cpus marked
+module _ (nodes pool marks : List ℕ) (i : ℕ) where
+  pub unnamed-not : isCpu nodes pool i ≡ false → unnamedFault nodes pool marks i ≡ 0
   unfolding unnamedFault
   unnamed-not h = rw h
 
-  pub unnamed-is : {k : ℕ} {b : Bool} → isCpu nodes pool i ≡ true → k ≡ countBelow (isCpu nodes pool) i → b ≡ isAmong cpus k → cond b 0 26 ≡ unnamedFault nodes pool cpus i
+  pub unnamed-is : {k : ℕ} {b : Bool} → isCpu nodes pool i ≡ true → k ≡ countBelow (isCpu nodes pool) i → b ≡ isMarked marks k → cond b 0 26 ≡ unnamedFault nodes pool marks i
   unfolding unnamedFault
-  unnamed-is h e f = ap (λ (x : Bool). cond x 0 26) (f ∙ ap (isAmong cpus) e) ∙ sym (rw h)
+  unnamed-is h e f = ap (λ (x : Bool). cond x 0 26) (f ∙ ap (isMarked marks) e) ∙ sym (rw h)
 
-same-fault :
-    (t : Tree) (count : ℕ) (cpus : List ℕ) (i : ℕ) →
-    isAmong (take count cpus) (countBelow (isCpu (t .nodes) (t .pool)) i) ≡ namedBelow t (nodeCount (t .nodes)) (countBelow (isCpu (t .nodes) (t .pool)) i) →
-    unnamedFault (t .nodes) (t .pool) (take count cpus) i ≡ unmappedFault t i
+same-fault : (t : Tree) (marks : List ℕ) → Marked t (nodeCount (t .nodes)) marks → (i : ℕ) → unnamedFault (t .nodes) (t .pool) marks i ≡ unmappedFault t i
 unfolding unnamedFault unmappedFault
-same-fault t count cpus i e = ap (λ (b : Bool). cond (isCpu (t .nodes) (t .pool) i) (cond b 0 26) 0) e
+same-fault t marks m i = ap (λ (b : Bool). cond (isCpu (t .nodes) (t .pool) i) (cond b 0 26) 0) (m .each (countBelow (isCpu (t .nodes) (t .pool)) i))
 
 -- what the scan answers after each stage
 module _ (t : Tree) where
@@ -162,29 +167,9 @@ module _ (t : Tree) where
       unfolding leafScan
       all-leaves = e ∙ rw (eq-eqb (first .number) 0 first-zero)
 
-      counted : s .leaves .count ≡ countBelow (isLeaf t) (nodeCount (t .nodes))
-      unfolding leavesOf
-      counted = ap (λ (r : TreeScan). r .leaves .count) all-leaves ∙ list-length (isLeaf t) (nodeCount (t .nodes))
-
-      named : s .leaves .cpus ≡ padded 256 (map (cpuOf t) (leafList t))
-      unfolding leavesOf
-      named = ap (λ (r : TreeScan). r .leaves .cpus) all-leaves
-
-      fit : s .leaves .count ≤ 256
-      fit =
-          let clean = first-is (treeFault t) (nodeCount (t .nodes)) .none first-zero .0 in
-          omega (arith, counted, list-length (isLeaf t) (nodeCount (t .nodes)), leaves-fit t few (nodeCount (t .nodes)) clean)
-
-      pub leaves-within : s .leaves .count ≤ length (s .leaves .cpus)
-      leaves-within = rw (named, pad-length 256 (map (cpuOf t) (leafList t))) fit
-
       -- the second pass looks for rule 26
-      pub last-is :
-          {f : Fault} → f ≡ firstFault (unnamedFault (t .nodes) (t .pool) (take (s .leaves .count) (s .leaves .cpus))) (nodeCount (t .nodes)) → f ≡ last
-      last-is h = h ∙ first-same (unnamedFault (t .nodes) (t .pool) (take (s .leaves .count) (s .leaves .cpus))) (unmappedFault t) (nodeCount (t .nodes)) (λ i lt clean. same i)
-        where
-          same : (i : ℕ) → unnamedFault (t .nodes) (t .pool) (take (s .leaves .count) (s .leaves .cpus)) i ≡ unmappedFault t i
-          same i = same-fault t (s .leaves .count) (s .leaves .cpus) i (among-is t (nodeCount (t .nodes)) (s .leaves .count) (countBelow (isCpu (t .nodes) (t .pool)) i) named counted fit)
+      pub last-is : {marks : List ℕ} {f : Fault} → Marked t (nodeCount (t .nodes)) marks → f ≡ firstFault (unnamedFault (t .nodes) (t .pool) marks) (nodeCount (t .nodes)) → f ≡ last
+      last-is {marks} m h = h ∙ first-same (unnamedFault (t .nodes) (t .pool) marks) (unmappedFault t) (nodeCount (t .nodes)) (λ i lt clean. same-fault t marks m i)
 
       module _ {f : Fault} (h : f ≡ last) where
         second : unlessTold t f ≡ treeScan t

@@ -5,7 +5,7 @@ use Prim.Native.Nat.{ℕ, zero, suc, _+_}
 use lib.Dec.{eqb, ltb, leb}
 use lib.ListN.{length, getD}
 use Rattle.laws.specs.Fault.{orNumber}
-use Rattle.laws.specs.Search.{lowest, anyBelow, countBelow}
+use Rattle.laws.specs.Search.{placeIn, countBelow}
 use Rattle.names.specs.declared.TopologyName.{TopologyName}
 use Rattle.names.specs.declared.TopologyName.the-variants.{Socket, Cluster, Core, Thread, Other}
 use Rattle.tables.specs.Board.{nodeCount, parentWord}
@@ -79,7 +79,7 @@ numberFault nodes p i name = cond (eqb (topologyNumber name) (countBelow (isChil
 
 -- the index of the phandle that a leaf's `cpu` holds, or their number where it holds none
 abbrev pub indexOf : List ℕ → Cell → ℕ
-indexOf phandles (cell.Is w) = lowest (λ k. eqb (getD phandles k 0) w) (length phandles)
+indexOf phandles (cell.Is w) = placeIn phandles w
 indexOf phandles cell.Not = length phandles
 
 unfoldable pub leafCpu : List ℕ → List ℕ → List ℕ → ℕ → ℕ

@@ -8,28 +8,25 @@ use tables::index_properties;
 use tables::part_start;
 ghost use mathlib.Core.Path.{_≡_};
 ghost use Prim.Native.Nat.{_≤_};
-ghost use lib.ListN.{length};
+ghost use lib.ListN.{length, replicate};
+ghost use Rattle.tables.specs.Board.{nodeCount};
 ghost use Rattle.cpus.specs.Rules.{maxCpus};
 ghost use Rattle.topology.specs.Scan.{tree};
-ghost use Rattle.topology.specs.Pass.{isAmong, checkedFault, refused, leafScan};
+ghost use Rattle.topology.specs.Pass.{isMarked, Marked, checkedFault, refused, leafScan};
 
-// Whether a number stands in a list.
-pub fn is_among(list: &[usize], number: usize) -> bool
-    ensures { λ r. ⌜ r ≡ isAmong (now (list .entry)) number ⌝ }
+// Whether a table of marks has cpu k marked.
+pub fn is_marked(marks: &[u8], k: usize) -> bool
+    ensures { λ r. ⌜ r ≡ isMarked (now (marks .entry)) k ⌝ }
 {
-    let mut k: usize = 0;
-    while k < list.len() {
-        if list[k] == number {
-            return true;
-        }
-        k += 1;
+    if marks.len() <= k {
+        return false;
     }
-    false
+    marks[k] == 1
 }
 
-// The number that a record breaks, given the cpus of the earlier leaves: its own, or 25 where it is a leaf and names one of them.
-fn checked_fault(earlier: &[usize], check: RecordCheck) -> u32
-    ensures { λ r. ⌜ r ≡ checkedFault (now (earlier .entry)) check ⌝ }
+// The number that a record breaks, given the marks of the cpus that earlier leaves name: its own, or 25 where it is a leaf and names one of them.
+fn checked_fault(marks: &[u8], check: RecordCheck) -> u32
+    ensures { λ r. ⌜ r ≡ checkedFault (now (marks .entry)) check ⌝ }
 {
     if check.number != 0 {
         return check.number;
@@ -37,7 +34,7 @@ fn checked_fault(earlier: &[usize], check: RecordCheck) -> u32
     if !check.leaf {
         return 0;
     }
-    if is_among(earlier, check.cpu) {
+    if is_marked(marks, check.cpu) {
         return REPEATED_LEAF_CPU;
     }
     0
@@ -58,10 +55,20 @@ pub fn refuse(number: u32, place: usize) -> TreeScan
     }
 }
 
-// The leaves, or the first of rules 18 to 25 that is broken.
-pub fn gather(nodes: &[u32], props: &[u32], pool: &[u8], map: usize, phandles: &[u64]) -> TreeScan
-    requires { ⌜ length (now phandles) ≤ maxCpus ⌝ }
+// The leaves, or the first of rules 18 to 25 that is broken. The cpus that leaves name are marked.
+pub fn gather(
+    nodes: &[u32],
+    props: &[u32],
+    pool: &[u8],
+    map: usize,
+    phandles: &[u64],
+    marks: &mut [u8],
+) -> TreeScan
+    requires { ⌜ (length (now phandles) ≤ maxCpus) × (now marks ≡ replicate 256 0) ⌝ }
     ensures { λ r. ⌜ r ≡ leafScan (tree (now (nodes .entry)) (now (props .entry)) (now (pool .entry)) map (now (phandles .entry))) ⌝ }
+    ensures { λ r.
+        let table = now (nodes .entry) in
+        ⌜ (r .number ≡ 0 → Marked (tree table (now (props .entry)) (now (pool .entry)) map (now (phandles .entry))) (nodeCount table) (now (marks .exit))) ⌝ }
 {
     let n = nodes.len() / 3;
     let index = index_properties(props);
@@ -72,7 +79,7 @@ pub fn gather(nodes: &[u32], props: &[u32], pool: &[u8], map: usize, phandles: &
     while i < n {
         let start = part_start(&index.starts, props.len(), i);
         let check = record_check(nodes, &props[start..], pool, map, phandles, i);
-        let number = checked_fault(&cpus[..count], check);
+        let number = checked_fault(marks, check);
         if number != 0 {
             return refuse(number, i);
         }
@@ -81,7 +88,9 @@ pub fn gather(nodes: &[u32], props: &[u32], pool: &[u8], map: usize, phandles: &
             continue;
         }
         records[count] = i;
-        cpus[count] = check.cpu;
+        let cpu = check.cpu;
+        cpus[count] = cpu;
+        marks[cpu] = 1;
         count += 1;
         i += 1;
     }

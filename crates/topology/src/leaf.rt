@@ -4,6 +4,7 @@ use crate::shape::has_child;
 use cpus::Cell;
 use cpus::cell_of;
 use laws::BAD_LEAF_CPU;
+use laws::place_in;
 use names::TopologyName;
 ghost use mathlib.Core.Path.{_≡_};
 ghost use lib.Dec.{eqb};
@@ -24,25 +25,11 @@ pub fn is_leaf_name(nodes: &[u32], i: usize, name: TopologyName) -> bool
     }
 }
 
-// The lowest index of a phandle, or the number of phandles where it is none of them.
-fn index_of_word(phandles: &[u64], word: u64) -> usize
-    ensures { λ r. ⌜ r ≡ lowest (λ k. eqb (getD (now (phandles .entry)) k 0) word) (length (now (phandles .entry))) ⌝ }
-{
-    let mut k: usize = 0;
-    while k < phandles.len() {
-        if phandles[k] == word {
-            return k;
-        }
-        k += 1;
-    }
-    k
-}
-
 fn index_of(phandles: &[u64], cell: Cell) -> usize
     ensures { λ r. ⌜ r ≡ indexOf (now (phandles .entry)) cell ⌝ }
 {
     match cell {
-        Cell::Is(word) => index_of_word(phandles, word as u64),
+        Cell::Is(word) => place_in(phandles, word as u64),
         Cell::Not => phandles.len(),
     }
 }

@@ -1,7 +1,7 @@
 // The leaves of the map: rules 18 to 26.
 use crate::TreeScan;
 use crate::gather::gather;
-use crate::gather::is_among;
+use crate::gather::is_marked;
 use crate::gather::refuse;
 use cpus::MAX_CPUS;
 use cpus::is_cpu;
@@ -14,11 +14,11 @@ ghost use Rattle.tables.specs.Board.{nodeCount};
 ghost use Rattle.topology.specs.Scan.{tree, treeScan};
 ghost use Rattle.topology.specs.Pass.{unnamedFault};
 
-// The lowest cpu record that breaks rule 26: its index among the cpu records is none of those that the leaves name.
-fn first_unmapped(nodes: &[u32], pool: &[u8], cpus: &[usize]) -> Fault
+// The lowest cpu record that breaks rule 26: its index among the cpu records is not marked.
+fn first_unmapped(nodes: &[u32], pool: &[u8], marks: &[u8]) -> Fault
     ensures { λ r.
         let table = now (nodes .entry) in
-        ⌜ r ≡ firstFault (unnamedFault table (now (pool .entry)) (now (cpus .entry))) (nodeCount table) ⌝ }
+        ⌜ r ≡ firstFault (unnamedFault table (now (pool .entry)) (now (marks .entry))) (nodeCount table) ⌝ }
 {
     let n = nodes.len() / 3;
     let mut index: usize = 0;
@@ -28,7 +28,7 @@ fn first_unmapped(nodes: &[u32], pool: &[u8], cpus: &[usize]) -> Fault
             i += 1;
             continue;
         }
-        if !is_among(cpus, index) {
+        if !is_marked(marks, index) {
             return Fault {
                 number: UNMAPPED_CPU,
                 place: i,
@@ -56,13 +56,12 @@ pub fn read_tree(
     if MAX_CPUS < phandles.len() {
         return refuse(BAD_CPU_COUNT, 0);
     }
-    let scan = gather(nodes, props, pool, map, phandles);
+    let mut marks = [0u8; 256];
+    let scan = gather(nodes, props, pool, map, phandles, &mut marks);
     if scan.number != 0 {
         return scan;
     }
-    let cpus = scan.leaves.cpus;
-    let count = scan.leaves.count;
-    let fault = first_unmapped(nodes, pool, &cpus[..count]);
+    let fault = first_unmapped(nodes, pool, &marks);
     if fault.number != 0 {
         return refuse(fault.number, fault.place);
     }

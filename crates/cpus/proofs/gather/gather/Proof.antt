@@ -7,6 +7,7 @@ use native.Mathlib.Omega.{arith}
 use borrow.Author.Tests.{not-true, not-false}
 use lib.ListN.{length, take, drop}
 use lib.Seq.{length-take-le}
+use Rattle.laws.specs.Search.{isAmong}
 use Rattle.laws.proofs.GatherLaws.{count-at}
 use Rattle.laws.proofs.PartLaws.{part-is}
 use Rattle.tables.specs.Board.{nodeCount}
@@ -14,7 +15,7 @@ use Rattle.tables.specs.Starts.{indexOf, partStart}
 use Rattle.tables.specs.declared.PropertyIndex.{PropertyIndex}
 use Rattle.tables.proofs.PartLaws.{Part, start-part}
 use Rattle.cpus.specs.Check.{isCpu}
-use Rattle.cpus.specs.Gather.{readingOf, repeatRule, isAmong, unlessSeen}
+use Rattle.cpus.specs.Gather.{readingOf, repeatRule, unlessSeen}
 use Rattle.cpus.specs.declared.Reading.{Reading}
 use Rattle.cpus.proofs.PartLaws.{reading-part}
 use Rattle.cpus.proofs.CodeLaws.{Pass, pass-start, pass-over, pass-next, pass-told, pass-end, pass-lengths}

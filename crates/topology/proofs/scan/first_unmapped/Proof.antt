@@ -1,4 +1,4 @@
--- `first_unmapped` meets its contract: the cpu records before record i are counted, and each is named. Assumes nothing.
+-- `first_unmapped` meets its contract: the cpu records before record i are counted, and each is marked. Assumes nothing.
 use mathlib.Core.Path.{_≡_, refl, sym, _∙_}
 use mathlib.Core.Bool.{true}
 use Prim.Native.Nat.{_≤_, _-_}
@@ -16,10 +16,10 @@ use Rattle.topology.proofs.scan.first_unmapped.Statement.{statement}
 use Rattle.topology.proofs.scan.first_unmapped.Tie as tie
 
 abbrev Inv-loop : tie.InvT-loop
-Inv-loop nodes pool cpus n index₀ i₀ index i = (i ≤ n) × (index ≡ countBelow (isCpu nodes pool) i) × (firstFault (unnamedFault nodes pool cpus) i ≡ clear)
+Inv-loop nodes pool marks n index₀ i₀ index i = (i ≤ n) × (index ≡ countBelow (isCpu nodes pool) i) × (firstFault (unnamedFault nodes pool marks) i ≡ clear)
 
 abbrev μ-loop : tie.MeasureT-loop
-μ-loop nodes pool cpus n index₀ i₀ index i = n - i
+μ-loop nodes pool marks n index₀ i₀ index i = n - i
 
 -- a cpu record
 cpu : (c : tie.Else1 Inv-loop μ-loop) → let a = c .before .before .before .before .before .before .before .args in isCpu (a .nodes .now) (a .pool .now) (c .before .before .before .loop .i) ≡ true
@@ -45,15 +45,15 @@ loop-again c =
     let other = sym (call .ensures) ∙ not-true (call .result) (c .if1 .taken) in
     (omega arith, loop .inv .1 ∙ sym (count-no _ _ other), clear-more _ _ (loop .inv .2) refl (unnamed-not _ _ _ _ other))
 
-is-among-requires : tie.Need-is-among-requires Inv-loop μ-loop
-is-among-requires c κs = search needs
+is-marked-requires : tie.Need-is-marked-requires Inv-loop μ-loop
+is-marked-requires c κs = search needs
 
 returns : tie.Need-returns Inv-loop μ-loop
 returns c =
-    let among = c .before .is-among in
+    let marked = c .before .is-marked in
     let test = c .before .before in
     let loop = test .before .before .before .loop in
-    at-fault _ _ _ (omega arith) (loop .inv .2) (unnamed-is _ _ _ _ (cpu test) (loop .inv .1) (sym (not-true (among .result) (c .if2 .taken)) ∙ among .ensures)) (λ z. omega arith)
+    at-fault _ _ _ (omega arith) (loop .inv .2) (unnamed-is _ _ _ _ (cpu test) (loop .inv .1) (sym (not-true (marked .result) (c .if2 .taken)) ∙ marked .ensures)) (λ z. omega arith)
 
 add-index : tie.Need-add-index Inv-loop μ-loop
 add-index c =
@@ -69,13 +69,13 @@ loop-less-2 c = search needs
 
 loop-again-2 : tie.Need-loop-again-2 Inv-loop μ-loop
 loop-again-2 c =
-    let among = c .before .is-among in
+    let marked = c .before .is-marked in
     let test = c .before .before in
     let loop = test .before .before .before .loop in
     let a = test .before .before .before .before .before .before .before .args in (
       omega arith,
       omega (arith, loop .inv .1, count-yes (isCpu (a .nodes .now) (a .pool .now)) (loop .i) (cpu test)),
-      clear-more _ _ (loop .inv .2) (unnamed-is _ _ _ _ (cpu test) (loop .inv .1) (sym (not-false (among .result) (c .if2 .left)) ∙ among .ensures)) refl,
+      clear-more _ _ (loop .inv .2) (unnamed-is _ _ _ _ (cpu test) (loop .inv .1) (sym (not-false (marked .result) (c .if2 .left)) ∙ marked .ensures)) refl,
     )
 
 returns-2 : tie.Need-returns-2 Inv-loop μ-loop
@@ -92,7 +92,7 @@ first-unmapped-spec =
     add-i
     loop-less
     loop-again
-    is-among-requires
+    is-marked-requires
     returns
     add-index
     add-i-2
