@@ -6,9 +6,10 @@ use Rattle.names.specs.declared.TopologyName.{TopologyName}
 use Rattle.names.specs.declared.TopologyName.the-variants.{Socket, Cluster, Core, Thread, Other}
 use Rattle.tables.specs.Board.{parentWord}
 use Rattle.topology.specs.declared.ClusterPath.{ClusterPath}
-use Rattle.topology.specs.Path.{gap, topologyName, clusterPath, socketNumber}
+use Rattle.topology.specs.Path.{gap, topologyName, clusterPath, socketNumber, positionOf}
 use Rattle.topology.specs.Check.{topologyNumber}
 use Rattle.rows.specs.declared.Row.{Row}
+use Rattle.rows.specs.declared.Above.{Above}
 
 -- the core's number: the leaf's own, or for a thread its parent's
 abbrev pub coreOf : TopologyName → TopologyName → ℕ
@@ -24,6 +25,10 @@ threadOf (Cluster n) = gap
 threadOf (Core n) = gap
 threadOf (Thread n) = n
 threadOf Other = gap
+
+-- what is known of a record that leaves stand under
+unfoldable pub aboveOf : List ℕ → List ℕ → ℕ → Above
+aboveOf nodes pool i = record { parent = i; name = topologyName nodes pool i; position = positionOf nodes pool i }
 
 -- the row of leaf record i, which names a cpu record with an MPIDR and a slot; a word holds the low 32 bits of a record number
 unfoldable pub rowOf : List ℕ → List ℕ → ℕ → ℕ → ℕ → ℕ → Row

@@ -30,12 +30,11 @@ rowNumber s k =
     let m = getD (s .cpus .mpidrs) cpu 0 in
     rowOf (s .nodes) (s .pool) (getD (s .leaves .records) k 0) (getD (s .cpus .records) cpu 0) m (slotOf (hashOfMask (s .mask)) m)
 
--- the same from the arrays and a hash
-abbrev pub rowFrom : List ℕ → List ℕ → List ℕ → List ℕ → List ℕ → List ℕ → Hash → ℕ → Row
-rowFrom nodes pool records indices cpus mpidrs hash k =
-    let cpu = getD indices k 0 in
-    let m = getD mpidrs cpu 0 in
-    rowOf nodes pool (getD records k 0) (getD cpus cpu 0) m (slotGuarded hash m)
+-- a leaf's row from the arrays of the cpu records, the index of its cpu and a hash
+abbrev pub rowFrom : List ℕ → List ℕ → ℕ → List ℕ → List ℕ → ℕ → Hash → Row
+rowFrom nodes pool leaf cpus mpidrs index hash =
+    let m = getD mpidrs index 0 in
+    rowOf nodes pool leaf (getD cpus index 0) m (slotGuarded hash m)
 
 -- the words of the first n rows
 unfoldable pub rowsBelow : Source → ℕ → List ℕ

@@ -1,10 +1,15 @@
 // The row of one leaf.
+use crate::Above;
 use crate::Row;
 use names::TopologyName;
+use tables::parent_of;
 use topology::GAP;
+use topology::position_under;
+use topology::topology_name;
 ghost use mathlib.Core.Path.{_≡_};
+ghost use Rattle.tables.specs.Board.{parentWord};
 ghost use Rattle.topology.specs.Check.{topologyNumber};
-ghost use Rattle.rows.specs.Row.{coreOf, threadOf, rowOf};
+ghost use Rattle.rows.specs.Row.{coreOf, threadOf, aboveOf, rowOf};
 
 // The number of a topology name, 0 where it is none.
 fn number_of(name: TopologyName) -> u32
@@ -44,20 +49,29 @@ fn thread_of(name: TopologyName) -> u32
     }
 }
 
-// The row of a leaf record that names a cpu record with an MPIDR and a slot.
-pub fn row_of(nodes: &[u32], pool: &[u8], leaf: usize, cpu: usize, mpidr: u64, slot: u32) -> Row
+// The row of a leaf record that names a cpu record with an MPIDR and a slot, given what is known of its parent.
+pub fn row_of(
+    nodes: &[u32],
+    pool: &[u8],
+    above: Above,
+    leaf: usize,
+    cpu: usize,
+    mpidr: u64,
+    slot: u32,
+) -> Row
+    requires { ⌜ above ≡ aboveOf (now nodes) (now pool) (parentWord (now nodes) leaf) ⌝ }
     ensures { λ r. ⌜ r ≡ rowOf (now (nodes .entry)) (now (pool .entry)) leaf cpu mpidr slot ⌝ }
 {
-    let name = topology::topology_name(nodes, pool, leaf);
-    let parent = topology::topology_name(nodes, pool, tables::node_word(nodes, leaf, 0));
-    let clusters = topology::cluster_path(nodes, pool, leaf);
-    let path = clusters.numbers;
+    let name = topology_name(nodes, pool, leaf);
+    let parent = above.name;
+    let position = position_under(parent_of(nodes, leaf), name, above.position);
+    let path = position.clusters.numbers;
     Row {
         leaf: (leaf % 4294967296) as u32,
         cpu: (cpu % 4294967296) as u32,
         upper: (mpidr / 4294967296) as u32,
         lower: (mpidr % 4294967296) as u32,
-        socket: topology::socket_number(nodes, pool, leaf),
+        socket: position.socket,
         path,
         core: core_of(name, parent),
         thread: thread_of(name),

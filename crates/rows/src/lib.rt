@@ -1,8 +1,10 @@
 // Rows of twelve words: one for each leaf, written into a lent buffer.
 mod leaf;
+mod parent;
 mod write;
 
-pub use leaf::row_of;
+use names::TopologyName;
+use topology::Position;
 pub use write::write_rows;
 
 // The words of a row.
@@ -19,4 +21,11 @@ pub struct Row {
     pub core: u32,
     pub thread: u32,
     pub slot: u32,
+}
+
+// What is known of a record that leaves stand under.
+struct Above {
+    parent: usize,
+    name: TopologyName,
+    position: Position,
 }

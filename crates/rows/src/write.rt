@@ -1,7 +1,10 @@
 // Writing rows: each into its own words of the lent buffer.
+use crate::Above;
 use crate::ROW_WORDS;
 use crate::Row;
 use crate::leaf::row_of;
+use crate::parent::above_leaf;
+use crate::parent::above_of;
 use affinity::Hash;
 use cpus::Cpus;
 use topology::Leaves;
@@ -9,8 +12,9 @@ ghost use mathlib.Core.Path.{_≡_};
 ghost use mathlib.Core.List.{_++_};
 ghost use Prim.Native.Nat.{_≤_};
 ghost use lib.ListN.{length, drop, getD};
+ghost use Rattle.tables.specs.Board.{parentWord};
 ghost use Rattle.rows.specs.Fits.{rowSize};
-ghost use Rattle.rows.specs.Row.{rowWords};
+ghost use Rattle.rows.specs.Row.{aboveOf, rowWords};
 ghost use Rattle.rows.specs.Write.{hasRoom, written, source, rowFrom};
 
 // Writes a row at the start of a part of the row buffer.
@@ -51,28 +55,28 @@ fn mpidr_at(list: &[u64], k: usize) -> u64
     0
 }
 
-// Row number k, from the arrays of the leaves and of the cpu records.
-fn row_number(
+// The row of a leaf, given what is known of its parent and the index of its cpu among the cpu records.
+fn leaf_row<'a>(
     nodes: &[u32],
     pool: &[u8],
-    records: &[usize],
-    indices: &[usize],
-    cpu_records: &[usize],
-    mpidrs: &[u64],
+    above: Above,
+    leaf: usize,
+    cpu_records: &'a [usize],
+    mpidrs: &'a [u64],
+    index: usize,
     hash: Hash,
-    k: usize,
 ) -> Row
+    requires { ⌜ above ≡ aboveOf (now nodes) (now pool) (parentWord (now nodes) leaf) ⌝ }
     ensures { λ r.
-        ⌜ r
-        ≡ rowFrom (now (nodes .entry)) (now (pool .entry)) (now (records .entry)) (now (indices .entry)) (now («cpu_records» .entry)) (now (mpidrs .entry)) hash k ⌝ }
+        ⌜ r ≡ rowFrom (now (nodes .entry)) (now (pool .entry)) leaf (now («cpu_records» .entry)) (now (mpidrs .entry)) index hash ⌝ }
 {
-    let index = record_at(indices, k);
     let mpidr = mpidr_at(mpidrs, index);
     let slot = affinity::slot_of(hash, mpidr);
     row_of(
         nodes,
         pool,
-        record_at(records, k),
+        above,
+        leaf,
         record_at(cpu_records, index),
         mpidr,
         slot,
@@ -97,21 +101,21 @@ pub fn write_rows(
         return false;
     }
     let hash = affinity::hash_of_mask(mask);
-    let records = leaves.records;
-    let indices = leaves.cpus;
-    let cpu_records = cpus.records;
-    let mpidrs = cpus.mpidrs;
+    let mut above = above_of(nodes, pool, 0);
     let mut k: usize = 0;
     while k < count {
-        let row = row_number(
+        let leaf = record_at(&leaves.records, k);
+        above = above_leaf(nodes, pool, leaf, above);
+        let index = record_at(&leaves.cpus, k);
+        let row = leaf_row(
             nodes,
             pool,
-            &records,
-            &indices,
-            &cpu_records,
-            &mpidrs,
+            above,
+            leaf,
+            &cpus.records,
+            &cpus.mpidrs,
+            index,
             hash,
-            k,
         );
         let start = ROW_WORDS * k;
         put_row(&mut rows[start..], row);

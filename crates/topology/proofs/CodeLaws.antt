@@ -14,14 +14,21 @@ use Rattle.names.specs.declared.TopologyName.{TopologyName}
 use Rattle.names.specs.declared.TopologyName.the-variants.{Other}
 use Rattle.names.specs.Name.{nameOf}
 use Rattle.tables.specs.Board.{nodeCount, range, parentWord, nameOffset, nameLength}
+use Rattle.tables.specs.declared.Parent.{Parent}
 use Rattle.tables.specs.declared.Parent.the-variants.{Is, Top}
 use Rattle.tables.specs.Tree.{parentOf, climb, isBelow, Child, Ancestor}
 use Rattle.tables.proofs.TreeLaws.{parent-is, parent-top, climb-parent, climb-none, below-ancestor}
 use Rattle.cpus.specs.Check.{isChild}
-use Rattle.topology.specs.Path.{gap, topologyName, noClusters, clusterStep, clusterPath, socketStep, socketNumber}
+use Rattle.topology.specs.declared.ClusterPath.{ClusterPath}
+use Rattle.topology.specs.declared.Position.{Position}
+use Rattle.topology.specs.Path.{gap, topologyName, noClusters, clusterStep, clusterPath, socketStep, socketNumber, noPosition, positionStep, positionUnder, positionOf}
 use Rattle.topology.specs.Find.{mapOf, secondMapFault, mapFault, mapScan}
 use Rattle.topology.specs.Check.{hasChild, kindNumber, kindFault, numberFault, leafCpu, shapeFault, broken, leafCheck, isLeafName, mapRecordFault, mapRecordCheck}
 use Rattle.laws.proofs.PassLaws.{count-none}
+
+-- a position from its parts
+abbrev both : ℕ → ClusterPath → Position
+both socket clusters = record { socket = socket; clusters = clusters }
 
 module _ (nodes pool : List ℕ) (i : ℕ) where
   -- the name of record i
@@ -72,6 +79,27 @@ module _ (nodes pool : List ℕ) (i : ℕ) where
   pub socket-is : (p : ℕ) → parentOf nodes i ≡ Is p → socketStep (topologyName nodes pool i) (socketNumber nodes pool p) ≡ socketNumber nodes pool i
   unfolding socketNumber
   socket-is p h = climb-is gap (λ j socket. socketStep (topologyName nodes pool j) socket) p h
+
+  -- both together
+  pub position-none : parentOf nodes i ≡ Top → noPosition ≡ positionOf nodes pool i
+  unfolding positionOf
+  position-none h = ap₂ both (socket-none h) (path-none h)
+
+  pub position-is : (p : ℕ) → parentOf nodes i ≡ Is p → positionStep (topologyName nodes pool i) (positionOf nodes pool p) ≡ positionOf nodes pool i
+  unfolding positionOf
+  position-is p h = ap₂ both (socket-is p h) (path-is p h)
+
+  pub position-above :
+      {parent : Parent} {name : TopologyName} {above : Position} →
+      parent ≡ parentOf nodes i →
+      name ≡ topologyName nodes pool i →
+      above ≡ positionOf nodes pool (parentWord nodes i) →
+      positionUnder parent name above ≡ positionOf nodes pool i
+  position-above e n a = rw (e, n, a) (go (parentOf nodes i) refl)
+    where
+      go : (p : Parent) → parentOf nodes i ≡ p → positionUnder p (topologyName nodes pool i) (positionOf nodes pool (parentWord nodes i)) ≡ positionOf nodes pool i
+      go (Is p) h = rw (parent-is nodes i p h .1) (position-is p h)
+      go Top h = position-none h
 
 -- the records up to p are no children of p
 pub no-children : (nodes : List ℕ) (p : ℕ) → countBelow (isChild nodes p) (p + 1) ≡ 0

@@ -9,8 +9,11 @@ use Rattle.names.specs.declared.TopologyName.{TopologyName}
 use Rattle.names.specs.declared.TopologyName.the-variants.{Socket, Cluster, Core, Thread, Other}
 use Rattle.names.specs.Name.{nameOf}
 use Rattle.tables.specs.Board.{range, nameOffset, nameLength, nodeCount}
+use Rattle.tables.specs.declared.Parent.{Parent}
+use Rattle.tables.specs.declared.Parent.the-variants.{Is, Top}
 use Rattle.tables.specs.Tree.{climb}
 use Rattle.topology.specs.declared.ClusterPath.{ClusterPath}
+use Rattle.topology.specs.declared.Position.{Position}
 
 -- GAP: what a row holds where the map states nothing
 abbrev pub gap : ℕ
@@ -51,3 +54,18 @@ socketStep Other socket = socket
 -- the number of the socket among record i and its ancestors, or GAP
 unfoldable pub socketNumber : List ℕ → List ℕ → ℕ → ℕ
 socketNumber nodes pool i = climb nodes gap (λ j socket. socketStep (topologyName nodes pool j) socket) i
+
+-- both: of a record without a parent; from a record's name and its parent's position; of record i
+abbrev pub noPosition : Position
+noPosition = record { socket = gap; clusters = noClusters }
+
+abbrev pub positionStep : TopologyName → Position → Position
+positionStep name above = record { socket = socketStep name (above .socket); clusters = clusterStep name (above .clusters) }
+
+unfoldable pub positionOf : List ℕ → List ℕ → ℕ → Position
+positionOf nodes pool i = record { socket = socketNumber nodes pool i; clusters = clusterPath nodes pool i }
+
+-- a record's position, where the record that its parent word names has the position `above`
+abbrev pub positionUnder : Parent → TopologyName → Position → Position
+positionUnder (Is p) name above = positionStep name above
+positionUnder Top name above = noPosition

@@ -5,20 +5,27 @@ mod gather;
 mod kind;
 mod leaf;
 mod path;
+mod positions;
 mod scan;
 mod shape;
 
 pub use find::find_map;
 pub use path::GAP;
-pub use path::cluster_path;
-pub use path::socket_number;
 pub use path::topology_name;
+pub use positions::position_of;
+pub use positions::position_under;
 pub use scan::read_tree;
 
 // A cluster path: four numbers, outermost first, 0xFFFFFFFF where unused, and how many are used.
 pub struct ClusterPath {
     pub numbers: [u32; 4],
     pub depth: usize,
+}
+
+// What a record and its ancestors say: the number of their socket, 0xFFFFFFFF where there is none, and their clusters.
+pub struct Position {
+    pub socket: u32,
+    pub clusters: ClusterPath,
 }
 
 // The map's record, or the number and the place of the first of rules 15 and 16 that is broken.

@@ -1,4 +1,4 @@
-// What a record's ancestors say: its socket and its clusters, outermost first.
+// What a record's name says, and the clusters among a record and its ancestors, outermost first.
 use crate::ClusterPath;
 use names::TopologyName;
 use names::name_of;
@@ -6,7 +6,7 @@ use tables::Parent;
 use tables::node_word;
 use tables::parent_of;
 ghost use mathlib.Core.Path.{_≡_};
-ghost use Rattle.topology.specs.Path.{topologyName, noClusters, extend, clusterStep, clusterPath, socketStep, socketNumber};
+ghost use Rattle.topology.specs.Path.{topologyName, noClusters, extend, clusterStep, clusterPath};
 
 // What a row holds where the map states nothing.
 pub const GAP: u32 = 0xFFFFFFFF;
@@ -54,7 +54,7 @@ impl ClusterPath {
 }
 
 // A record's path, from its name and its parent's path.
-fn cluster_step(name: TopologyName, above: ClusterPath) -> ClusterPath
+pub fn cluster_step(name: TopologyName, above: ClusterPath) -> ClusterPath
     ensures { λ r. ⌜ r ≡ clusterStep name above ⌝ }
 {
     match name {
@@ -75,28 +75,4 @@ pub fn cluster_path(nodes: &[u32], pool: &[u8], i: usize) -> ClusterPath
         return ClusterPath::empty();
     };
     cluster_step(topology_name(nodes, pool, i), cluster_path(nodes, pool, p))
-}
-
-// A record's socket, from its name and its parent's socket.
-fn socket_step(name: TopologyName, above: u32) -> u32
-    ensures { λ r. ⌜ r ≡ socketStep name above ⌝ }
-{
-    match name {
-        TopologyName::Socket(n) => n,
-        TopologyName::Cluster(_) => above,
-        TopologyName::Core(_) => above,
-        TopologyName::Thread(_) => above,
-        TopologyName::Other => above,
-    }
-}
-
-// The number of the socket among record i and its ancestors, or 0xFFFFFFFF.
-pub fn socket_number(nodes: &[u32], pool: &[u8], i: usize) -> u32
-    ensures { λ r. ⌜ r ≡ socketNumber (now (nodes .entry)) (now (pool .entry)) i ⌝ }
-{
-    let parent = parent_of(nodes, i);
-    let Parent::Is(p) = parent else {
-        return GAP;
-    };
-    socket_step(topology_name(nodes, pool, i), socket_number(nodes, pool, p))
 }

@@ -1,130 +1,140 @@
 -- `write_rows` writes row after row, each behind those before it. Assumes nothing.
-use mathlib.Core.Path.{_≡_, refl, sym, ap, _∙_}
-use mathlib.Core.List.{List, _++_}
-use Prim.Native.Nat.{ℕ, _*_, _-_, _≤_}
+use mathlib.Core.Path.{_≡_, refl, _∙_}
+use mathlib.Core.List.{_++_}
+use Prim.Native.Nat.{_+_, _*_, _-_, _^_, _≤_, _<_}
 use native.Mathlib.Omega.{arith}
 use lib.ListN.{length, drop}
+use borrow.Author.Needs.{needs}
 use borrow.Author.Tests.{le-leb, lt-leb}
 use borrow.Rule.Slice.PartMut.{same-len-mid}
 use Rattle.rows.specs.Fits.{rowSize}
-use Rattle.rows.specs.Write.{rowsBelow, written}
-use Rattle.rows.proofs.TurnLaws.{made, from-number, row-more, same-rows}
-use borrow.Author.Needs.{needs}
+use Rattle.rows.specs.Row.{aboveOf}
+use Rattle.rows.specs.Write.{Source, source, rowNumber, rowsBelow, written}
+use Rattle.rows.proofs.AboveLaws.{above-itself}
+use Rattle.rows.proofs.TurnLaws.{from-number, row-more}
 use Rattle.rows.proofs.write.write_rows.Statement.{statement}
 use Rattle.rows.proofs.write.write_rows.Tie as tie
-use Rattle.rows.proofs.write.write_rows.Reads as reads
-use Rattle.rows.proofs.write.write_rows.Lts as lts
-use Rattle.affinity.proofs.hash_of_mask.Reads as hash-of-mask-reads
-use Rattle.rows.proofs.write.put_row.Reads as put-row-reads
-use Rattle.rows.proofs.write.row_number.Reads as row-number-reads
 
 abbrev Inv-loop : tie.InvT-loop
-Inv-loop rows₀ nodes pool mask count hash records indices cpu-records mpidrs k₀ rows k =
+Inv-loop rows₀ nodes pool mask cpus leaves count hash above₀ k₀ rows above k =
     (k ≤ count)
     × (rowSize * count ≤ length rows₀)
     × (length rows ≡ length rows₀)
-    × (rows ≡ rowsBelow (made nodes pool mask count records indices cpu-records mpidrs) k ++ drop (rowSize * k) rows₀)
+    × (rows ≡ rowsBelow (source nodes pool cpus leaves mask) k ++ drop (rowSize * k) rows₀)
+    × (above ≡ aboveOf nodes pool (above .parent))
 
 abbrev μ-loop : tie.MeasureT-loop
-μ-loop rows₀ nodes pool mask count hash records indices cpu-records mpidrs k₀ rows k = count - k
+μ-loop rows₀ nodes pool mask cpus leaves count hash above₀ k₀ rows above k = count - k
 
--- src/write.rt:89:9
+-- the start, and what the rows are made of
+abbrev begun : tie.At-loop Inv-loop μ-loop → tie.Start Inv-loop μ-loop
+begun c = c .before .before .before .before .before .before .before
+
+abbrev from : tie.At-loop Inv-loop μ-loop → Source
+from c = let a = begun c .args in source (a .nodes .now) (a .pool .now) (a .t4) (a .t5) (a .mask)
+
+-- the turn in which a row is made, and in it the reading of the leaf's parent
+abbrev parent : tie.After-leaf-row Inv-loop μ-loop → tie.After-above-leaf Inv-loop μ-loop
+parent c = c .before .before .before .before .before .before .before .before .before .before
+
+abbrev turn : tie.After-leaf-row Inv-loop μ-loop → tie.In-loop Inv-loop μ-loop
+turn c = parent c .before .before .before .before .before
+
+-- the row is that of leaf k
+made : (c : tie.After-leaf-row Inv-loop μ-loop) → let at = turn c .before in c .leaf-row .result ≡ rowNumber (from at) (at .loop .k)
+made c =
+    let index = c .before .before .before .before .before .before in
+    let at = turn c .before in
+    c .leaf-row .ensures ∙ from-number (from at) (at .loop .k) (parent c .before .record-at .ensures) (index .record-at2 .ensures) (at .before .before .hash-of-mask .ensures)
+
+-- it has its place in the buffer, and the buffer in memory
+place :
+    (c : tie.In-loop Inv-loop μ-loop) →
+    let at = c .before in
+    (at .loop .k < begun at .args .t5 .count) × (rowSize * at .loop .k + rowSize ≤ length (at .loop .rows)) × (4 * length (at .loop .rows) < 2 ^ 63)
+place c =
+    let at = c .before in
+    let inv = at .loop .inv in
+    (c .loop-test .taken, omega (arith, inv .1, inv .2, c .loop-test .taken), omega (arith, begun at .good .0 .0, inv .2))
+
 returns : tie.Need-returns Inv-loop μ-loop
 unfolding written
-returns c = let short = lt-leb (rowSize * c .before .before .before .before .args .leaves .count) (length (c .before .before .before .before .args .rows .now)) (omega arith) in (rw short, rw short)
+returns c =
+    let start = c .before .before .before .before .args in
+    let short = lt-leb (rowSize * start .t5 .count) (length (start .rows .now)) (omega arith) in
+    (rw short, rw short)
 
--- src/write.rt:91:9
 hash-of-mask-requires : tie.Need-hash-of-mask-requires Inv-loop μ-loop
 hash-of-mask-requires c κs = search needs
 
--- src/write.rt:97:5
+above-of-requires : tie.Need-above-of-requires Inv-loop μ-loop
+above-of-requires c κs = search needs
+
 loop-holds : tie.Need-loop-holds Inv-loop μ-loop
 unfolding rowsBelow
-loop-holds c = (omega arith, omega arith, refl, refl)
+loop-holds c = (omega arith, omega arith, refl, refl, above-itself _ _ _ (c .above-of .ensures))
 
--- src/write.rt:98:43
-slice-aggregate-row-number : tie.Need-slice-aggregate-row-number Inv-loop μ-loop
-slice-aggregate-row-number c = search needs
+record-at-requires : tie.Need-record-at-requires Inv-loop μ-loop
+record-at-requires c κs = search needs
 
--- src/write.rt:98:53
-slice-aggregate-row-number-2 : tie.Need-slice-aggregate-row-number-2 Inv-loop μ-loop
-slice-aggregate-row-number-2 c = search needs
+above-leaf-requires : tie.Need-above-leaf-requires Inv-loop μ-loop
+above-leaf-requires c κs = c .before .before .before .before .before .loop .inv .4
 
--- src/write.rt:98:63
-slice-aggregate-row-number-3 : tie.Need-slice-aggregate-row-number-3 Inv-loop μ-loop
-slice-aggregate-row-number-3 c = search needs
+record-at-requires-2 : tie.Need-record-at-requires-2 Inv-loop μ-loop
+record-at-requires-2 c κs = search needs
 
--- src/write.rt:98:77
-slice-aggregate-row-number-4 : tie.Need-slice-aggregate-row-number-4 Inv-loop μ-loop
-slice-aggregate-row-number-4 c = search needs
+leaf-row-requires : tie.Need-leaf-row-requires Inv-loop μ-loop
+leaf-row-requires c κs = c .before .before .before .before .before .before .before .before .before .above-leaf .ensures
 
--- src/write.rt:98:13
-row-number-requires : tie.Need-row-number-requires Inv-loop μ-loop
-row-number-requires c κs = search needs
-
--- src/write.rt:99:21
 mul-start : tie.Need-mul-start Inv-loop μ-loop
-mul-start c = search needs
+mul-start c = search (needs, place (turn c))
 
--- src/write.rt:100:17
 mul-put-row : tie.Need-mul-put-row Inv-loop μ-loop
-mul-put-row c = search needs
+mul-put-row c = search (needs, place (turn c))
 
--- src/write.rt:100:17
 sub-put-row : tie.Need-sub-put-row Inv-loop μ-loop
-sub-put-row c = search needs
+sub-put-row c = search (needs, place (turn c))
 
--- src/write.rt:100:17
 part-put-row-start : tie.Need-part-put-row-start Inv-loop μ-loop
-part-put-row-start c = search needs
+part-put-row-start c = search (needs, place (turn c))
 
--- src/write.rt:100:17
 part-put-row-end : tie.Need-part-put-row-end Inv-loop μ-loop
 part-put-row-end c = search needs
 
--- src/write.rt:100:9
 put-row-requires : tie.Need-put-row-requires Inv-loop μ-loop
-put-row-requires c κs = search needs
+put-row-requires c κs = search (needs, place (turn (c .before)))
 
--- src/write.rt:101:9
 add-k : tie.Need-add-k Inv-loop μ-loop
-add-k c =
-    let loop = c .before .before .before .before .before .before .before .before .before .before .loop in
-    let start = c .before .before .before .before .before .before .before .before .before .before .before .before .before .before .before .before .before .before .before .before in
-    omega (arith, loop .inv .1, start .good .0 .0)
+add-k c = search (needs, place (turn (c .before .before .before .before)))
 
--- src/write.rt:97:5
 loop-less : tie.Need-loop-less Inv-loop μ-loop
-loop-less c = search needs
+loop-less c = search (needs, place (turn (c .before .before .before .before)))
 
--- src/write.rt:97:5
 loop-again : tie.Need-loop-again Inv-loop μ-loop
 loop-again c =
-    let loop = c .before .before .before .before .before .before .before .before .before .before .loop in
-    let start = c .before .before .before .before .before .before .before .before .before .before .before .before .before .before .before .before .before .before .before .before .args in
-    let xs = loop .rows in
     let call = c .before .before .put-row in
-    let s =
-    made (start .nodes .now) (start .pool .now) (start .mask) (start .leaves .count) (start .leaves .records) (start .leaves .cpus) (start .cpus .records) (start .cpus .mpidrs) in (
-      omega arith,
-      loop .inv .1,
-      same-len-mid (rowSize * loop .k) (length xs - rowSize * loop .k) xs (call .last .0) (call .kept .0) ∙ loop .inv .2,
-      row-more s (start .rows .now) xs (call .last .0) (loop .k) (loop .inv .3) (c .before .before .before .before .row-number .ensures ∙ from-number s _ (loop .k) (c .before .before .before .before .before .before .before .before .before .before .before .before .before .before .before .hash-of-mask .ensures)) (call .ensures),
+    let row = c .before .before .before .before in
+    let at = turn row .before in
+    let inv = at .loop .inv in
+    let xs = at .loop .rows in (
+      omega (arith, place (turn row)),
+      inv .1,
+      same-len-mid (rowSize * at .loop .k) (length xs - rowSize * at .loop .k) xs (call .last .0) (call .kept .0) ∙ inv .2,
+      row-more (from at) (begun at .args .rows .now) xs (call .last .0) (at .loop .k) (inv .3) (made row) (call .ensures),
+      above-itself _ _ _ (parent row .above-leaf .ensures),
     )
 
--- src/write.rt:80:1
 same-length : tie.Need-same-length Inv-loop μ-loop
 same-length c = search needs
 
--- src/write.rt:80:1
 returns-2 : tie.Need-returns-2 Inv-loop μ-loop
 unfolding written
 returns-2 c =
-    let loop = c .before .loop in
-    let start = c .before .before .before .before .before .before .before .before .before .before .before .args in
-    let whole : loop .k ≡ start .leaves .count = omega arith in
-    let room = le-leb (rowSize * start .leaves .count) (length (start .rows .now)) (loop .inv .1) in
-    (rw room, rw room (rw whole at (loop .inv .3) ∙ rw (same-rows (start .nodes .now) (start .pool .now) (start .cpus) (start .leaves) (start .mask) (start .leaves .count))))
+    let at = c .before in
+    let a = begun at .args in
+    let whole : at .loop .k ≡ a .t5 .count = omega arith in
+    let room = le-leb (rowSize * a .t5 .count) (length (a .rows .now)) (at .loop .inv .1) in
+    (rw room, rw room (rw whole at (at .loop .inv .3)))
 
 pub write-rows-spec : {M : Type 1} → statement M
 write-rows-spec =
@@ -134,12 +144,12 @@ write-rows-spec =
     μ-loop
     returns
     hash-of-mask-requires
+    above-of-requires
     loop-holds
-    slice-aggregate-row-number
-    slice-aggregate-row-number-2
-    slice-aggregate-row-number-3
-    slice-aggregate-row-number-4
-    row-number-requires
+    record-at-requires
+    above-leaf-requires
+    record-at-requires-2
+    leaf-row-requires
     mul-start
     mul-put-row
     sub-put-row
