@@ -8,7 +8,7 @@ use lib.Dec.{eqb}
 use lib.ListN.{length, getD}
 use borrow.Author.Tests.{lt-ltb, le-ltb, eqb-true, eqb-false}
 use Rattle.laws.specs.Search.{lowest}
-use Rattle.laws.proofs.SearchLaws.{lowest-at}
+use Rattle.laws.proofs.SearchLaws.{lowest-at, lowest-more}
 use Rattle.laws.proofs.TestLaws.{both-true}
 use Rattle.tables.specs.declared.Lookup.the-variants.{At, Missing}
 use Rattle.tables.specs.Board.{rangeIs, propCount, propNode, keyOffset, keyLength}
@@ -47,16 +47,32 @@ module _ (props pool : List ℕ) (node : ℕ) (key : List ℕ) where
       ∙ ap₂ (λ (o n : ℕ). rangeIs pool o n key) (w ∙ ap (λ (n : ℕ). getD props (n + 1) 0) (sym start)) (sym (eqb-true (keyLength props (at / 5)) len (is .1)))
       ∙ rw (is .0)
 
-  pub found-at :
-      (k : ℕ) →
-      k < propCount props →
+  -- the search: none of the first k records is a property, and the words of the next one begin at `at`
+  pub none-yet : (k : ℕ) → k ≡ 0 → lowest (isProperty props pool node key) k ≡ k
+  unfolding lowest
+  none-yet k start = rw start
+
+  pub none-more :
+      (at k n : ℕ) →
       lowest (isProperty props pool node key) k ≡ k →
-      isProperty props pool node key k ≡ true →
-      At k ≡ lookup props pool node key
+      isProperty props pool node key (at / 5) ≡ false →
+      at / 5 ≡ k →
+      n ≡ k + 1 →
+      lowest (isProperty props pool node key) n ≡ n
+  none-more at k n none other here next = rw next (lowest-more (isProperty props pool node key) k none (rw here at other))
+
+  pub found-at :
+      (at k : ℕ) →
+      lowest (isProperty props pool node key) k ≡ k →
+      isProperty props pool node key (at / 5) ≡ true →
+      at / 5 ≡ k →
+      k < propCount props →
+      At (at / 5) ≡ lookup props pool node key
   unfolding lookup
-  found-at k lt none here =
+  found-at at k none test here lt =
       let e : foundBelow (propCount props) k ≡ At k = rw (lt-ltb k (propCount props) lt) in
-      sym e ∙ ap (foundBelow (propCount props)) (lowest-at (isProperty props pool node key) k (propCount props) lt none here)
+      let found = lowest-at (isProperty props pool node key) k (propCount props) lt none (rw here at test) in
+      ap At here ∙ sym e ∙ ap (foundBelow (propCount props)) found
 
   pub found-none : (k : ℕ) → k ≡ propCount props → lowest (isProperty props pool node key) k ≡ k → Missing ≡ lookup props pool node key
   unfolding lookup

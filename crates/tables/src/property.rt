@@ -22,19 +22,20 @@ pub fn may_be(props: &[u32], node: usize, len: usize, at: usize) -> bool
     wide(props[at + 2]) == len
 }
 
-// The lowest property record of a node with the name `key`.
+// The lowest property record of a node with the name `key`. `left` records are still to be tested.
 pub fn find_property(props: &[u32], pool: &[u8], node: usize, key: &[u8]) -> Lookup
     ensures { λ r. ⌜ r ≡ lookup (now (props .entry)) (now (pool .entry)) node (now (key .entry)) ⌝ }
 {
-    let end = 5 * (props.len() / 5);
-    let mut at: usize = 0;
-    while at < end {
+    let count = props.len() / 5;
+    let mut left = count;
+    while 0 < left {
+        let at = 5 * (count - left);
         if may_be(props, node, key.len(), at) {
             if range_is(pool, wide(props[at + 1]), key.len(), key) {
                 return Lookup::At(at / 5);
             }
         }
-        at += 5;
+        left -= 1;
     }
     Lookup::Missing
 }

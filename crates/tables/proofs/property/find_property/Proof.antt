@@ -1,28 +1,29 @@
--- `find_property` finds the lowest property of that name: none before `at` is one. Assumes nothing.
+-- `find_property` finds the lowest property of that name: none of the `count - left` records tested is one. Assumes nothing.
 use mathlib.Core.Path.{_≡_, refl, sym, _∙_}
 use mathlib.Core.Logic.{⊎-elim}
-use Prim.Native.Nat.{_+_, _/_, _%_, _≤_, _-_}
+use Prim.Native.Nat.{_≤_, _-_}
 use native.Mathlib.Omega.{arith}
 use borrow.Author.Needs.{needs}
 use Rattle.laws.specs.Search.{lowest}
-use Rattle.laws.proofs.SearchLaws.{lowest-more}
 use Rattle.tables.specs.Property.{isProperty}
-use Rattle.tables.proofs.CodeLookup.{found-at, found-none, other-property, tested-property}
+use Rattle.tables.proofs.CodeLookup.{found-at, found-none, none-more, none-yet, other-property, tested-property}
 use Rattle.tables.proofs.property.find_property.Statement.{statement}
 use Rattle.tables.proofs.property.find_property.Tie as tie
 
 abbrev Inv-loop : tie.InvT-loop
-Inv-loop props pool node key end at₀ at = (at % 5 ≡ 0) × (at ≤ end) × (lowest (isProperty props pool node key) (at / 5) ≡ at / 5)
+Inv-loop props pool node key count left₀ left = (left ≤ count) × (lowest (isProperty props pool node key) (count - left) ≡ count - left)
 
 abbrev μ-loop : tie.MeasureT-loop
-μ-loop props pool node key end at₀ at = end - at
-
-mul-end : tie.Need-mul-end Inv-loop μ-loop
-mul-end c = search needs
+μ-loop props pool node key count left₀ left = left
 
 loop-holds : tie.Need-loop-holds Inv-loop μ-loop
-unfolding lowest
-loop-holds c = (refl, omega arith, refl)
+loop-holds c = (omega arith, none-yet _ _ _ _ _ (omega arith))
+
+sub-at : tie.Need-sub-at Inv-loop μ-loop
+sub-at c = search needs
+
+mul-at : tie.Need-mul-at Inv-loop μ-loop
+mul-at c = search needs
 
 may-be-requires : tie.Need-may-be-requires Inv-loop μ-loop
 may-be-requires c κs = search needs
@@ -46,12 +47,14 @@ returns : tie.Need-returns Inv-loop μ-loop
 returns c =
     let name = c .before in
     let may = name .before .before .before in
-    let loop = may .before .before .before .loop in
-    let test = tested-property _ _ _ _ _ _ (loop .inv .0) (may .before .may-be .ensures) (may .if1 .taken) (name .before .wide .ensures) (name .range-is .ensures) in
-    found-at _ _ _ _ _ (omega arith) (loop .inv .2) (sym test ∙ c .if2 .taken)
+    let call = may .before in
+    let loop = call .before .before .loop in
+    let whole = may-be-requires (call .before) (call .may-be .lifetimes) .0 in
+    let test = tested-property _ _ _ _ _ _ whole (call .may-be .ensures) (may .if1 .taken) (name .before .wide .ensures) (name .range-is .ensures) in
+    found-at _ _ _ _ _ _ (loop .inv .1) (sym test ∙ c .if2 .taken) (omega arith) (omega arith)
 
-add-at : tie.Need-add-at Inv-loop μ-loop
-add-at c = search needs
+sub-left : tie.Need-sub-left Inv-loop μ-loop
+sub-left c = search needs
 
 loop-less : tie.Need-loop-less Inv-loop μ-loop
 loop-less c = search needs
@@ -60,16 +63,18 @@ loop-again : tie.Need-loop-again Inv-loop μ-loop
 loop-again c =
     let call = c .before in
     let loop = call .before .before .loop in
-    let none =
-    ⊎-elim
-    (λ w. sym (tested-property _ _ _ _ _ _ (loop .inv .0) (call .may-be .ensures) (w .0 .taken) (w .2 .ensures) (w .3 .ensures)) ∙ w .4 .left)
-    (λ w. other-property _ _ _ _ _ _ refl (call .may-be .ensures) (w .left))
-    (c .if1 .came) in
-    let next : (loop .at + 5) / 5 ≡ loop .at / 5 + 1 = omega arith in
-    (omega arith, omega arith, rw next (lowest-more _ _ (loop .inv .2) none))
+    let whole = may-be-requires (call .before) (call .may-be .lifetimes) .0 in (
+      omega arith,
+      none-more _ _ _ _ _ _ _ (loop .inv .1)
+          (⊎-elim
+          (λ w. sym (tested-property _ _ _ _ _ _ whole (call .may-be .ensures) (w .0 .taken) (w .2 .ensures) (w .3 .ensures)) ∙ w .4 .left)
+          (λ w. other-property _ _ _ _ _ _ refl (call .may-be .ensures) (w .left))
+          (c .if1 .came))
+          (omega arith) (omega arith),
+    )
 
 returns-2 : tie.Need-returns-2 Inv-loop μ-loop
-returns-2 c = found-none _ _ _ _ _ (omega arith) (c .before .loop .inv .2)
+returns-2 c = found-none _ _ _ _ _ (omega arith) (c .before .loop .inv .1)
 
 pub find-property-spec : {M : Type 1} → statement M
 find-property-spec =
@@ -77,8 +82,9 @@ find-property-spec =
     (tie.spec
     Inv-loop
     μ-loop
-    mul-end
     loop-holds
+    sub-at
+    mul-at
     may-be-requires
     add-wide
     mul-wide
@@ -86,7 +92,7 @@ find-property-spec =
     wide-requires
     range-is-requires
     returns
-    add-at
+    sub-left
     loop-less
     loop-again
     returns-2)

@@ -1,0 +1,10 @@
+-- `refused` holds the number and the place, and nothing else. Assumes nothing.
+use mathlib.Core.Path.{refl}
+use Rattle.board.proofs.refused.Statement.{statement}
+use Rattle.board.proofs.refused.Tie as tie
+
+returns : tie.Need-returns
+returns c = refl
+
+pub refused-spec : {M : Type 1} → statement M
+refused-spec = tie.close (tie.spec returns)
