@@ -1,12 +1,10 @@
-// What a record's name says, and the clusters among a record and its ancestors, outermost first.
+// What a record's name says, and the clusters on a path, outermost first.
 use crate::ClusterPath;
 use names::TopologyName;
 use names::name_of;
-use tables::Parent;
 use tables::node_word;
-use tables::parent_of;
 ghost use mathlib.Core.Path.{_≡_};
-ghost use Rattle.topology.specs.Path.{topologyName, noClusters, extend, clusterStep, clusterPath};
+ghost use Rattle.topology.specs.Path.{topologyName, noClusters, extend, clusterStep};
 
 // What a row holds where the map states nothing.
 pub const GAP: u32 = 0xFFFFFFFF;
@@ -64,15 +62,4 @@ pub fn cluster_step(name: TopologyName, above: ClusterPath) -> ClusterPath
         TopologyName::Thread(_) => above,
         TopologyName::Other => above,
     }
-}
-
-// The clusters among record i and its ancestors.
-pub fn cluster_path(nodes: &[u32], pool: &[u8], i: usize) -> ClusterPath
-    ensures { λ r. ⌜ r ≡ clusterPath (now (nodes .entry)) (now (pool .entry)) i ⌝ }
-{
-    let parent = parent_of(nodes, i);
-    let Parent::Is(p) = parent else {
-        return ClusterPath::empty();
-    };
-    cluster_step(topology_name(nodes, pool, i), cluster_path(nodes, pool, p))
 }

@@ -1,6 +1,6 @@
 // Numbers of siblings, depth of clusters and groups without children: rules 21 to 23.
 use crate::kind::topology_number;
-use crate::path::cluster_path;
+use crate::positions::position_of;
 use cpus::is_child;
 use laws::BAD_MAP_NAME;
 use laws::BAD_NUMBER;
@@ -65,8 +65,8 @@ pub fn group_fault(nodes: &[u32], i: usize) -> u32
 fn depth_fault(nodes: &[u32], pool: &[u8], p: usize) -> u32
     ensures { λ r. ⌜ r ≡ depthFault (now (nodes .entry)) (now (pool .entry)) p ⌝ }
 {
-    let path = cluster_path(nodes, pool, p);
-    if path.depth < 4 {
+    let above = position_of(nodes, pool, p);
+    if above.clusters.depth < 4 {
         return 0;
     }
     TOO_DEEP

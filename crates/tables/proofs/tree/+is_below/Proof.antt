@@ -24,78 +24,42 @@ abbrev is-below-below : ℕ → In 1 is-below-kinds.ps
 is-below-below t =
     and 1 is-below-kinds.ps (falls 1 is-below-kinds.ps _<_ μ-is-below t) is-below.Pre
 
-is-below-parent-of-requires : (t : ℕ) → is-below-lts.Need-parent-of-requires (
-  parent-of-reads.Asked,
-  parent-of-reads.Learnt,
-  is-below-below t,
-  is-below.Post,
-) (is-below-at t) is-below.Post
+-- what the calls ask and give
+abbrev claims : ℕ → is-below-lts.Claims
+claims t = (parent-of-reads.Asked, parent-of-reads.Learnt, is-below-below t, is-below.Post)
+
+is-below-parent-of-requires : (t : ℕ) → is-below-lts.Need-parent-of-requires (claims t) (is-below-at t) is-below.Post
 is-below-parent-of-requires t c κs = search needs
 
-is-below-enum-known-parent : (t : ℕ) → is-below-lts.Need-enum-known-parent (
-  parent-of-reads.Asked,
-  parent-of-reads.Learnt,
-  is-below-below t,
-  is-below.Post,
-) (is-below-at t) is-below.Post
+is-below-enum-known-parent : (t : ℕ) → is-below-lts.Need-enum-known-parent (claims t) (is-below-at t) is-below.Post
 is-below-enum-known-parent t c = search needs
 
-is-below-enum-told : (t : ℕ) → is-below-lts.Need-enum-told (
-  parent-of-reads.Asked,
-  parent-of-reads.Learnt,
-  is-below-below t,
-  is-below.Post,
-) (is-below-at t) is-below.Post
+is-below-enum-told : (t : ℕ) → is-below-lts.Need-enum-told (claims t) (is-below-at t) is-below.Post
 is-below-enum-told t c = search needs
 
-is-below-returns : (t : ℕ) → is-below-lts.Need-returns (
-  parent-of-reads.Asked,
-  parent-of-reads.Learnt,
-  is-below-below t,
-  is-below.Post,
-) (is-below-at t) is-below.Post
+is-below-returns : (t : ℕ) → is-below-lts.Need-returns (claims t) (is-below-at t) is-below.Post
 is-below-returns t c =
     let call = c .before .before in
     below-none _ _ _ (parent-top _ _ (sym (call .parent-of .ensures) ∙ c .enum-told .given .1))
 
-is-below-returns-2 : (t : ℕ) → is-below-lts.Need-returns-2 (
-  parent-of-reads.Asked,
-  parent-of-reads.Learnt,
-  is-below-below t,
-  is-below.Post,
-) (is-below-at t) is-below.Post
+is-below-returns-2 : (t : ℕ) → is-below-lts.Need-returns-2 (claims t) (is-below-at t) is-below.Post
 is-below-returns-2 t c =
     let known = c .before .before in
     below-end _ _ _ _ (sym (known .before .before .parent-of .ensures) ∙ known .parent .given .1) (c .if1 .taken)
 
-is-below-is-below-requires : (t : ℕ) → is-below-lts.Need-is-below-requires (
-  parent-of-reads.Asked,
-  parent-of-reads.Learnt,
-  is-below-below t,
-  is-below.Post,
-) (is-below-at t) is-below.Post
+is-below-is-below-requires : (t : ℕ) → is-below-lts.Need-is-below-requires (claims t) (is-below-at t) is-below.Post
 is-below-is-below-requires t c κs =
     let known = c .before .before in
     omega (arith, parent-is _ _ _ (sym (known .before .before .parent-of .ensures) ∙ known .parent .given .1) .2)
 
-is-below-returns-3 : (t : ℕ) → is-below-lts.Need-returns-3 (
-  parent-of-reads.Asked,
-  parent-of-reads.Learnt,
-  is-below-below t,
-  is-below.Post,
-) (is-below-at t) is-below.Post
+is-below-returns-3 : (t : ℕ) → is-below-lts.Need-returns-3 (claims t) (is-below-at t) is-below.Post
 is-below-returns-3 t c =
     let known = c .before .before .before in
     c .is-below .ensures
     ∙ below-on _ _ _ _ (sym (known .before .before .parent-of .ensures) ∙ known .parent .given .1) (λ e. omega arith)
 
 pub +is-below-spec : {M : Type 1} → statement M
-+is-below-spec = close μ-is-below λ t. is-below-lts.spec (
-  parent-of-reads.Asked,
-  parent-of-reads.Learnt,
-  is-below-below t,
-  is-below.Post,
-)
++is-below-spec = close μ-is-below λ t. is-below-lts.spec (claims t)
     (is-below-at t)
     is-below.Post
     (is-below-parent-of-requires t)
