@@ -10,7 +10,7 @@ use borrow.Author.Tests.{ne-eqb, eqb-true, eqb-false}
 use Rattle.tables.specs.declared.Parent.the-variants.{Is}
 use Rattle.tables.specs.Limits.{noParent}
 use Rattle.tables.specs.Board.{parentWord}
-use Rattle.tables.specs.Tree.{parentOf, isBelow, Ancestor}
+use Rattle.tables.specs.Tree.{parentOf, isBelow, isAtOrBelow, Ancestor}
 use Rattle.tables.specs.Check.{soundParent}
 use Rattle.tables.proofs.CodePool.{word-zero}
 use Rattle.tables.proofs.TreeLaws.{parent-is, below-ancestor, below-here, below-parent}
@@ -21,12 +21,6 @@ module _ (nodes : List ℕ) where
   ancestor-less (Ancestor.parent h) = h .earlier
   ancestor-less (Ancestor.above h t) = omega (arith, ancestor-less t, h .earlier)
 
-  -- the search goes on at a parent other than a
-  pub below-on : (a i p : ℕ) → parentOf nodes i ≡ Is p → (p ≡ a → ⊥) → isBelow nodes p a ≡ isBelow nodes i a
-  below-on a i p h ne =
-      let at = parent-is nodes i p h in
-      ap (λ (q : ℕ). isBelow nodes q a) (sym (at .1)) ∙ below-parent nodes a i (at .0) (ne-eqb _ _ (λ e. ne (sym (at .1) ∙ e)))
-
   -- a record is below no later one ..
   not-below : (a i : ℕ) → i ≤ a → isBelow nodes i a ≡ false
   not-below a i le = go (isBelow nodes i a) refl
@@ -35,13 +29,27 @@ module _ (nodes : List ℕ) where
       go true e = absurd (omega (arith, ancestor-less (below-ancestor nodes a i e)))
       go false e = e
 
-  -- .. so the search ends at a parent that is not after a
-  pub below-end : (a i p : ℕ) → parentOf nodes i ≡ Is p → p ≤ a → eqb p a ≡ isBelow nodes i a
-  below-end a i p h le = go (eqb p a) refl
+  -- .. so the search ends at a record that is not after a
+  pub reach-end : (a p : ℕ) → p ≤ a → eqb p a ≡ isAtOrBelow nodes p a
+  reach-end a p le = rw (not-below a p le) (alone (eqb p a))
     where
-      go : (t : Bool) → eqb p a ≡ t → t ≡ isBelow nodes i a
+      alone : (t : Bool) → t ≡ cond t true false
+      alone true = refl
+      alone false = refl
+
+  -- a record after a is not a
+  pub reach-on : (a p : ℕ) → a < p → isBelow nodes p a ≡ isAtOrBelow nodes p a
+  reach-on a p lt = rw (ne-eqb p a (λ e. omega arith))
+
+  -- a record is below what its parent is or is below
+  pub below-from : (a i p : ℕ) → parentOf nodes i ≡ Is p → isAtOrBelow nodes p a ≡ isBelow nodes i a
+  below-from a i p h = go (eqb p a) refl
+    where
+      go : (t : Bool) → eqb p a ≡ t → cond t true (isBelow nodes p a) ≡ isBelow nodes i a
       go true e = let at = parent-is nodes i p h in below-here nodes a i (at .0) (at .1 ∙ eqb-true p a e)
-      go false e = sym (not-below a p le) ∙ below-on a i p h (eqb-false _ _ e)
+      go false e =
+          let at = parent-is nodes i p h in
+          ap (λ (q : ℕ). isBelow nodes q a) (sym (at .1)) ∙ below-parent nodes a i (at .0) (ne-eqb _ _ (λ q. eqb-false p a e (sym (at .1) ∙ q)))
 
   -- the depth-first rule of the first record and of a later one, whose parent word is w
   pub sound-first : (i w : ℕ) → i ≡ 0 → w ≡ getD nodes (3 * i + 0) 0 → eqb w noParent ≡ soundParent nodes i

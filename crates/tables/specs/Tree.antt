@@ -44,3 +44,7 @@ belowStep nodes a i value = cond (eqb (parentWord nodes i) a) true value
 -- whether record i is below a
 unfoldable pub isBelow : List ℕ → ℕ → ℕ → Bool
 isBelow nodes i a = climb nodes false (belowStep nodes a) i
+
+-- whether record p is a or below it
+abbrev pub isAtOrBelow : List ℕ → ℕ → ℕ → Bool
+isAtOrBelow nodes p a = cond (eqb p a) true (isBelow nodes p a)

@@ -5,7 +5,7 @@ use crate::words::node_word;
 use crate::words::wide;
 ghost use mathlib.Core.Path.{_≡_};
 ghost use Rattle.tables.specs.Board.{nameOffset, nameLength, rangeIs};
-ghost use Rattle.tables.specs.Tree.{parentOf, isBelow};
+ghost use Rattle.tables.specs.Tree.{parentOf, isBelow, isAtOrBelow};
 
 // The parent of record i. A record outside the table has none, nor has one whose parent word is not below its number.
 pub fn parent_of(nodes: &[u32], i: usize) -> Parent
@@ -21,7 +21,21 @@ pub fn parent_of(nodes: &[u32], i: usize) -> Parent
     Parent::Is(word)
 }
 
-// Whether record a is an ancestor of record i. Ancestors have smaller numbers: at a parent not above a the search ends.
+// Whether record p is record a or below it. Ancestors have smaller numbers: at a record not after a the search ends.
+fn reaches(nodes: &[u32], p: usize, a: usize) -> bool
+    ensures { λ r. ⌜ r ≡ isAtOrBelow (now (nodes .entry)) p a ⌝ }
+{
+    if p <= a {
+        return p == a;
+    }
+    let parent = parent_of(nodes, p);
+    let Parent::Is(q) = parent else {
+        return false;
+    };
+    reaches(nodes, q, a)
+}
+
+// Whether record a is an ancestor of record i.
 pub fn is_below(nodes: &[u32], i: usize, a: usize) -> bool
     ensures { λ r. ⌜ r ≡ isBelow (now (nodes .entry)) i a ⌝ }
 {
@@ -29,10 +43,7 @@ pub fn is_below(nodes: &[u32], i: usize, a: usize) -> bool
     let Parent::Is(p) = parent else {
         return false;
     };
-    if p <= a {
-        return p == a;
-    }
-    is_below(nodes, p, a)
+    reaches(nodes, p, a)
 }
 
 // Whether the name of record i is the given one.
