@@ -2,6 +2,7 @@
 use crate::Gathered;
 use crate::Reading;
 use crate::Wanted;
+use crate::limits::MAX_CPUS;
 use crate::node::is_cpu;
 use crate::read::read_record;
 use laws::BAD_PHANDLE;
@@ -53,8 +54,8 @@ pub fn refuse(number: u32, place: usize) -> Gathered
         number,
         place,
         count: 0,
-        records: [0usize; 256],
-        values: [0u64; 256],
+        records: [0usize; MAX_CPUS],
+        values: [0u64; MAX_CPUS],
     }
 }
 
@@ -68,8 +69,8 @@ pub fn gather(wanted: Wanted, nodes: &[u32], props: &[u32], pool: &[u8]) -> Gath
 {
     let n = nodes.len() / 3;
     let index = index_properties(props);
-    let mut records = [0usize; 256];
-    let mut values = [0u64; 256];
+    let mut records = [0usize; MAX_CPUS];
+    let mut values = [0u64; MAX_CPUS];
     let mut count: usize = 0;
     let mut i: usize = 0;
     while i < n {

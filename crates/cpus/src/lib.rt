@@ -31,8 +31,8 @@ pub enum Mpidr {
 // The cpu records in order, each with its MPIDR.
 pub struct Cpus {
     pub count: usize,
-    pub records: [usize; 256],
-    pub mpidrs: [u64; 256],
+    pub records: [usize; MAX_CPUS],
+    pub mpidrs: [u64; MAX_CPUS],
 }
 
 // The cpu records of a board, or the number and the place of the first of rules 9 to 13 that is broken.
@@ -46,7 +46,7 @@ pub struct CpuScan {
 pub struct PhandleScan {
     pub number: u32,
     pub place: usize,
-    pub values: [u64; 256],
+    pub values: [u64; MAX_CPUS],
 }
 
 // The number of each cpu record to gather: its MPIDR of so many address cells, or its phandle.
@@ -66,6 +66,6 @@ struct Gathered {
     number: u32,
     place: usize,
     count: usize,
-    records: [usize; 256],
-    values: [u64; 256],
+    records: [usize; MAX_CPUS],
+    values: [u64; MAX_CPUS],
 }

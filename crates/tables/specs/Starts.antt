@@ -17,8 +17,8 @@ startsBelow props (suc k) =
     let place = placeOf (propNode props k) in
     set before place (min (getD before place 0) k)
 
-abbrev pub indexOf : List ℕ → PropertyIndex
-indexOf props = record { starts = startsBelow props (propCount props) }
+abbrev pub propertyIndex : List ℕ → PropertyIndex
+propertyIndex props = record { starts = startsBelow props (propCount props) }
 
 -- the word at which the part of the property table begins that holds a node's properties
 abbrev pub partStart : List ℕ → ℕ → ℕ → ℕ

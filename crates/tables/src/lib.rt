@@ -11,6 +11,7 @@ mod tree;
 mod words;
 
 pub use check::table_fault;
+use limits::MAX_NODES;
 pub use pool::cell_at;
 pub use pool::range_is;
 pub use property::find_property;
@@ -38,5 +39,5 @@ pub enum Lookup {
 
 // Where the properties of each node start, by the node's number modulo 1,024.
 pub struct PropertyIndex {
-    pub starts: [u16; 1024],
+    pub starts: [u16; MAX_NODES],
 }

@@ -1,9 +1,11 @@
 // Rules 7 and 8: each property.
+use crate::limits::MAX_NODES;
 use crate::limits::MAX_PROPERTY_NAME;
 use crate::pool::is_inside;
 use crate::pool::range_is;
 use crate::pool::sound_name;
 use crate::property::may_be;
+use crate::starts::NO_START;
 use crate::starts::start_of;
 use crate::words::prop_word;
 use crate::words::wide;
@@ -40,7 +42,7 @@ pub fn first_property_fault(count: usize, props: &[u32], pool: &[u8]) -> Fault
         ⌜ r ≡ firstFault (propertyFault count table (now (pool .entry))) (propCount table) ⌝ }
 {
     let n = props.len() / 5;
-    let mut starts = [65535u16; 1024];
+    let mut starts = [NO_START; MAX_NODES];
     let mut k: usize = 0;
     'pairs: while k < n {
         if !sound_property(count, props, pool.len(), k) {

@@ -41,11 +41,23 @@ module _ (t : Tree) where
   unfolding firstFault countBelow listBelow
   gathered-none r c = record { clean = refl; counted = refl; fits = omega arith; records-are = r; cpus-are = c }
 
+  -- a cpu is marked where a leaf names it
+  marked-is : {n : ℕ} {marks : List ℕ} → Marked t n marks → (k : ℕ) → isMarked marks k ≡ namedBelow t n k
+  marked-is {n} m k = rw (m .each k) (go (namedBelow t n k))
+    where
+      go : (b : Bool) → eqb (cond b 1 0) 1 ≡ b
+      go true = refl
+      go false = refl
+
+  -- where no rule is told, all leaves are marked
+  pub marked-all : {number n : ℕ} {marks : List ℕ} → number ≡ 0 → (place : ℕ) → Marked t (cond (eqb number 0) n place) marks → Marked t n marks
+  marked-all {number} z place m = rw (eq-eqb number 0 z) at m
+
   pub marked-none : {marks : List ℕ} → marks ≡ replicate 256 0 → Marked t 0 marks
   unfolding namedBelow anyBelow
-  marked-none {marks} e = record { size = ap length e ∙ length-replicate {A = ℕ} 256 0; each = λ k. ap (λ (l : List ℕ). isMarked l k) e ∙ go k (lt-or-le k 256) }
+  marked-none {marks} e = record { size = ap length e ∙ length-replicate {A = ℕ} 256 0; each = λ k. ap (λ (l : List ℕ). getD l k 0) e ∙ go k (lt-or-le k 256) }
     where
-      go : (k : ℕ) → (k < 256) ⊎ (256 ≤ k) → isMarked (replicate 256 0) k ≡ false
+      go : (k : ℕ) → (k < 256) ⊎ (256 ≤ k) → getD {A = ℕ} (replicate 256 0) k 0 ≡ 0
       go k (inl lt) = rw (getD-replicate {A = ℕ} 256 k 0 0 lt)
       go k (inr le) = rw (List·getD-eq-default {A = ℕ} (replicate 256 0) 0 {n = k} (rw (length-replicate {A = ℕ} 256 0) le))
 
@@ -53,7 +65,7 @@ module _ (t : Tree) where
     pub fault-is : {marks : List ℕ} {r : RecordCheck} {v : ℕ} → Marked t i marks → r ≡ check t i → v ≡ checkedFault marks r → v ≡ treeFault t i
     unfolding treeFault
     fault-is {marks} m e f =
-        f ∙ ap (checkedFault marks) e ∙ ap (λ (b : Bool). orNumber (check t i .number) (cond (isLeaf t i) (cond b 25 0) 0)) (m .each (cpuOf t i))
+        f ∙ ap (checkedFault marks) e ∙ ap (λ (b : Bool). orNumber (check t i .number) (cond (isLeaf t i) (cond b 25 0) 0)) (marked-is m (cpuOf t i))
 
     -- record i breaks a rule
     pub gather-told : {v : ℕ} → i < nodeCount (t .nodes) → v ≡ treeFault t i → (v ≡ 0 → ⊥) → refused v i ≡ leafScan t
@@ -102,13 +114,13 @@ module _ (t : Tree) where
 module _ (t : Tree) {marks : List ℕ} {i : ℕ} (m : Marked t i marks) where
   pub mark-keep : isLeaf t i ≡ false → Marked t (i + 1) marks
   unfolding namedBelow anyBelow
-  mark-keep h = record { size = m .size; each = λ k. m .each k ∙ sym (rw (add-one i, h)) }
+  mark-keep h = record { size = m .size; each = λ k. rw (add-one i, h) (m .each k) }
 
   pub mark-push : {c : ℕ} → c ≡ cpuOf t i → c < 256 → isLeaf t i ≡ true → Marked t (i + 1) (set marks c 1)
   unfolding namedBelow anyBelow
   mark-push {c} e lt h = record { size = length-set marks c 1 ∙ m .size; each = λ k. rw (add-one i, h, ← e) (go k (eqb c k) refl) }
     where
-      go : (k : ℕ) (b : Bool) → eqb c k ≡ b → isMarked (set marks c 1) k ≡ cond b true (namedBelow t i k)
+      go : (k : ℕ) (b : Bool) → eqb c k ≡ b → getD (set marks c 1) k 0 ≡ cond (cond b true (namedBelow t i k)) 1 0
       go k true q = let same = eqb-true c k q in rw (← same, getD-set-same marks c 1 0 (omega (arith, m .size)))
       go k false q = rw (getD-set-other marks c k 1 0 (λ r. eqb-false c k q (sym r))) (m .each k)
 
@@ -124,7 +136,7 @@ module _ (nodes pool marks : List ℕ) (i : ℕ) where
 
 same-fault : (t : Tree) (marks : List ℕ) → Marked t (nodeCount (t .nodes)) marks → (i : ℕ) → unnamedFault (t .nodes) (t .pool) marks i ≡ unmappedFault t i
 unfolding unnamedFault unmappedFault
-same-fault t marks m i = ap (λ (b : Bool). cond (isCpu (t .nodes) (t .pool) i) (cond b 0 26) 0) (m .each (countBelow (isCpu (t .nodes) (t .pool)) i))
+same-fault t marks m i = ap (λ (b : Bool). cond (isCpu (t .nodes) (t .pool) i) (cond b 0 26) 0) (marked-is t m (countBelow (isCpu (t .nodes) (t .pool)) i))
 
 -- what the scan answers after each stage
 module _ (t : Tree) where

@@ -10,6 +10,7 @@ use Rattle.laws.specs.Fault.{orNumber, firstFault}
 use Rattle.laws.specs.Search.{countBelow}
 use Rattle.tables.specs.Board.{nodeCount}
 use Rattle.cpus.specs.Check.{isCpu}
+use Rattle.cpus.specs.Rules.{maxCpus}
 use Rattle.topology.specs.declared.RecordCheck.{RecordCheck}
 use Rattle.topology.specs.declared.TreeScan.{TreeScan}
 use Rattle.topology.specs.Scan.{Tree, namedBelow, treeFault, leavesOf, noLeaves}
@@ -18,10 +19,10 @@ use Rattle.topology.specs.Scan.{Tree, namedBelow, treeFault, leavesOf, n
 abbrev pub isMarked : List ℕ → ℕ → Bool
 isMarked marks k = eqb (getD marks k 0) 1
 
--- the cpus marked are those that the leaves below n name
+-- the table of marks for the leaves below n: 1 for each cpu that one of them names, 0 for each other
 pub record Marked (t : Tree) (n : ℕ) (marks : List ℕ) : Type 0 where
-  pub size : length marks ≡ 256
-  pub each : (k : ℕ) → isMarked marks k ≡ namedBelow t n k
+  pub size : length marks ≡ maxCpus
+  pub each : (k : ℕ) → getD marks k 0 ≡ cond (namedBelow t n k) 1 0
 
 -- the number that a record breaks: its own, or 25 where it is a leaf and an earlier leaf names its cpu
 abbrev pub checkedFault : List ℕ → RecordCheck → ℕ

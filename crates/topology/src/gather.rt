@@ -3,11 +3,14 @@ use crate::Leaves;
 use crate::RecordCheck;
 use crate::TreeScan;
 use crate::check::record_check;
+use cpus::MAX_CPUS;
 use laws::REPEATED_LEAF_CPU;
 use tables::index_properties;
 use tables::part_start;
 ghost use mathlib.Core.Path.{_≡_};
+ghost use mathlib.Core.Bool.{cond};
 ghost use Prim.Native.Nat.{_≤_};
+ghost use lib.Dec.{eqb};
 ghost use lib.ListN.{length, replicate};
 ghost use Rattle.tables.specs.Board.{nodeCount};
 ghost use Rattle.cpus.specs.Rules.{maxCpus};
@@ -49,13 +52,13 @@ pub fn refuse(number: u32, place: usize) -> TreeScan
         place,
         leaves: Leaves {
             count: 0,
-            records: [0usize; 256],
-            cpus: [0usize; 256],
+            records: [0usize; MAX_CPUS],
+            cpus: [0usize; MAX_CPUS],
         },
     }
 }
 
-// The leaves, or the first of rules 18 to 25 that is broken. The cpus that leaves name are marked.
+// The leaves, or the first of rules 18 to 25 that is broken. The cpus that leaves name are marked, up to the record that breaks one.
 pub fn gather(
     nodes: &[u32],
     props: &[u32],
@@ -64,16 +67,16 @@ pub fn gather(
     phandles: &[u64],
     marks: &mut [u8],
 ) -> TreeScan
-    requires { ⌜ (length (now phandles) ≤ maxCpus) × (now marks ≡ replicate 256 0) ⌝ }
+    requires { ⌜ (length (now phandles) ≤ maxCpus) × (now marks ≡ replicate maxCpus 0) ⌝ }
     ensures { λ r. ⌜ r ≡ leafScan (tree (now (nodes .entry)) (now (props .entry)) (now (pool .entry)) map (now (phandles .entry))) ⌝ }
     ensures { λ r.
-        let table = now (nodes .entry) in
-        ⌜ (r .number ≡ 0 → Marked (tree table (now (props .entry)) (now (pool .entry)) map (now (phandles .entry))) (nodeCount table) (now (marks .exit))) ⌝ }
+        let t = tree (now (nodes .entry)) (now (props .entry)) (now (pool .entry)) map (now (phandles .entry)) in
+        ⌜ Marked t (cond (eqb (r .number) 0) (nodeCount (t .nodes)) (r .place)) (now (marks .exit)) ⌝ }
 {
     let n = nodes.len() / 3;
     let index = index_properties(props);
-    let mut records = [0usize; 256];
-    let mut cpus = [0usize; 256];
+    let mut records = [0usize; MAX_CPUS];
+    let mut cpus = [0usize; MAX_CPUS];
     let mut count: usize = 0;
     let mut i: usize = 0;
     while i < n {

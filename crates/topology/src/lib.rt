@@ -9,6 +9,7 @@ mod positions;
 mod scan;
 mod shape;
 
+use cpus::MAX_CPUS;
 pub use find::find_map;
 pub use path::GAP;
 pub use path::topology_name;
@@ -45,8 +46,8 @@ pub struct RecordCheck {
 // The leaves in record order, and for each the index of the cpu record that it names.
 pub struct Leaves {
     pub count: usize,
-    pub records: [usize; 256],
-    pub cpus: [usize; 256],
+    pub records: [usize; MAX_CPUS],
+    pub cpus: [usize; MAX_CPUS],
 }
 
 // The leaves of a map, or the number and the place of the first of rules 18 to 26 that is broken.

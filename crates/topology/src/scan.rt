@@ -56,7 +56,7 @@ pub fn read_tree(
     if MAX_CPUS < phandles.len() {
         return refuse(BAD_CPU_COUNT, 0);
     }
-    let mut marks = [0u8; 256];
+    let mut marks = [0u8; MAX_CPUS];
     let scan = gather(nodes, props, pool, map, phandles, &mut marks);
     if scan.number != 0 {
         return scan;

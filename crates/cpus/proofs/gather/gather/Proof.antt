@@ -11,7 +11,7 @@ use Rattle.laws.specs.Search.{isAmong}
 use Rattle.laws.proofs.GatherLaws.{count-at}
 use Rattle.laws.proofs.PartLaws.{part-is}
 use Rattle.tables.specs.Board.{nodeCount}
-use Rattle.tables.specs.Starts.{indexOf, partStart}
+use Rattle.tables.specs.Starts.{propertyIndex, partStart}
 use Rattle.tables.specs.declared.PropertyIndex.{PropertyIndex}
 use Rattle.tables.proofs.PartLaws.{Part, start-part}
 use Rattle.cpus.specs.Check.{isCpu}
@@ -25,7 +25,7 @@ use Rattle.cpus.proofs.gather.gather.Tie as tie
 
 abbrev Inv-loop : tie.InvT-loop
 Inv-loop wanted nodes props pool n index records₀ values₀ count₀ i₀ records values count i =
-    (i ≤ n) × Pass (isCpu nodes pool) (readingOf wanted props pool) (repeatRule wanted) i count records values × (index ≡ indexOf props)
+    (i ≤ n) × Pass (isCpu nodes pool) (readingOf wanted props pool) (repeatRule wanted) i count records values × (index ≡ propertyIndex props)
 
 abbrev μ-loop : tie.MeasureT-loop
 μ-loop wanted nodes props pool n index records₀ values₀ count₀ i₀ records values count i = n - i

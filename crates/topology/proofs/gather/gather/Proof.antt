@@ -5,18 +5,17 @@ use mathlib.Core.List.{List}
 use Prim.Native.Nat.{ℕ, _*_, _≤_, _<_, _-_}
 use native.Mathlib.Omega.{arith}
 use lib.ListN.{length, drop, replicate, length-replicate}
-use borrow.Author.Tests.{not-true, not-false}
+use borrow.Author.Tests.{not-true, not-false, ne-eqb}
 use borrow.Author.Needs.{needs}
 use Rattle.laws.specs.Pad.{padded}
 use Rattle.laws.proofs.PartLaws.{part-is}
 use Rattle.tables.specs.Board.{nodeCount}
 use Rattle.tables.specs.declared.PropertyIndex.{PropertyIndex}
-use Rattle.tables.specs.Starts.{indexOf, partStart}
+use Rattle.tables.specs.Starts.{propertyIndex, partStart}
 use Rattle.tables.proofs.PartLaws.{Part, start-part}
 use Rattle.topology.specs.declared.RecordCheck.{RecordCheck}
 use Rattle.topology.specs.Check.{recordCheck}
 use Rattle.topology.specs.Scan.{tree, isLeaf, treeFault}
-use Rattle.topology.specs.declared.TreeScan.{TreeScan}
 use Rattle.topology.specs.Pass.{Marked}
 use Rattle.topology.proofs.LeafCount.{leaf-is}
 use Rattle.topology.proofs.PartLaws.{check-part}
@@ -25,7 +24,7 @@ use Rattle.topology.proofs.gather.gather.Statement.{statement}
 use Rattle.topology.proofs.gather.gather.Tie as tie
 
 abbrev Inv-loop : tie.InvT-loop
-Inv-loop nodes props pool map phandles marks₀ n index records₀ cpus₀ count₀ i₀ marks records cpus count i = (i ≤ n) × Gathered (tree nodes props pool map phandles) records cpus count i × (index ≡ indexOf props) × Marked (tree nodes props pool map phandles) i marks
+Inv-loop nodes props pool map phandles marks₀ n index records₀ cpus₀ count₀ i₀ marks records cpus count i = (i ≤ n) × Gathered (tree nodes props pool map phandles) records cpus count i × (index ≡ propertyIndex props) × Marked (tree nodes props pool map phandles) i marks
 
 abbrev μ-loop : tie.MeasureT-loop
 μ-loop nodes props pool map phandles marks₀ n index records₀ cpus₀ count₀ i₀ marks records cpus count i = n - i
@@ -135,7 +134,7 @@ returns : tie.Need-returns Inv-loop μ-loop
 returns c =
     let call = c .before .before in (
       c .refuse .ensures ∙ gather-told _ (looped (call .before .before) .loop .inv .1) (omega arith) (fault call) (c .before .if1 .taken),
-      λ z. absurd (c .before .if1 .taken (sym (ap (λ (r : TreeScan). r .number) (c .refuse .ensures)) ∙ z)),
+      rw (c .refuse .ensures, ne-eqb _ 0 (c .before .if1 .taken)) (looped (call .before .before) .loop .inv .3),
     )
 
 add-i : tie.Need-add-i Inv-loop μ-loop
@@ -197,7 +196,7 @@ returns-2 : tie.Need-returns-2 Inv-loop μ-loop
 returns-2 c =
     let loop = c .before .loop in
     let end : loop .i ≡ nodeCount (c .before .before .before .before .before .before .before .before .args .nodes .now) = omega arith in
-    (gather-all _ (loop .inv .1) end, λ z. rw end at (loop .inv .3))
+    (gather-all _ (loop .inv .1) end, rw end at (loop .inv .3))
 
 pub gather-spec : {M : Type 1} → statement M
 gather-spec =
