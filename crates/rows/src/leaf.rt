@@ -6,23 +6,10 @@ use tables::parent_of;
 use topology::GAP;
 use topology::position_under;
 use topology::topology_name;
+use topology::topology_number;
 ghost use mathlib.Core.Path.{_≡_};
 ghost use Rattle.tables.specs.Board.{parentWord};
-ghost use Rattle.topology.specs.Check.{topologyNumber};
 ghost use Rattle.rows.specs.Row.{coreOf, threadOf, aboveOf, rowOf};
-
-// The number of a topology name, 0 where it is none.
-fn number_of(name: TopologyName) -> u32
-    ensures { λ r. ⌜ r ≡ topologyNumber name ⌝ }
-{
-    match name {
-        TopologyName::Socket(n) => n,
-        TopologyName::Cluster(n) => n,
-        TopologyName::Core(n) => n,
-        TopologyName::Thread(n) => n,
-        TopologyName::Other => 0,
-    }
-}
 
 // The number of a leaf's core: its own, or for a thread its parent's.
 fn core_of(name: TopologyName, parent: TopologyName) -> u32
@@ -32,7 +19,7 @@ fn core_of(name: TopologyName, parent: TopologyName) -> u32
         TopologyName::Socket(_) => GAP,
         TopologyName::Cluster(_) => GAP,
         TopologyName::Core(n) => n,
-        TopologyName::Thread(_) => number_of(parent),
+        TopologyName::Thread(_) => topology_number(parent),
         TopologyName::Other => GAP,
     }
 }

@@ -23,6 +23,7 @@ pub fn kind_number(name: TopologyName) -> u32
     }
 }
 
+// The number in a topology name, 0 where it is none.
 pub fn topology_number(name: TopologyName) -> u32
     ensures { λ r. ⌜ r ≡ topologyNumber name ⌝ }
 {

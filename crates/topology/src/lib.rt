@@ -11,6 +11,7 @@ mod shape;
 
 use cpus::MAX_CPUS;
 pub use find::find_map;
+pub use kind::topology_number;
 pub use path::GAP;
 pub use path::topology_name;
 pub use positions::position_of;

@@ -15,8 +15,8 @@ enum-known-name c = search needs
 enum-told-3 : tie.Need-enum-told-3
 enum-told-3 c = search needs
 
-number-of-requires : tie.Need-number-of-requires
-number-of-requires c κs = search needs
+topology-number-requires : tie.Need-topology-number-requires
+topology-number-requires c κs = search needs
 
 enum-told-4 : tie.Need-enum-told-4
 enum-told-4 c = search needs
@@ -31,7 +31,7 @@ returns-3 : tie.Need-returns-3
 returns-3 c = rw (c .before .name .given .1)
 
 returns-4 : tie.Need-returns-4
-returns-4 c = rw (c .number-of .ensures, c .before .enum-told3 .given .1)
+returns-4 c = rw (c .topology-number .ensures, c .before .enum-told3 .given .1)
 
 returns-5 : tie.Need-returns-5
 returns-5 c = rw (c .enum-told4 .given .1)
@@ -44,7 +44,7 @@ core-of-spec =
     enum-told-2
     enum-known-name
     enum-told-3
-    number-of-requires
+    topology-number-requires
     enum-told-4
     returns
     returns-2
