@@ -6,3 +6,4 @@ pub mod Listing
 pub mod Digit
 pub mod Same
 pub mod Pad
+pub mod Listed

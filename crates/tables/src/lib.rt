@@ -11,7 +11,8 @@ mod tree;
 mod words;
 
 pub use check::table_fault;
-use limits::MAX_NODES;
+pub use limits::MAX_NODES;
+pub use limits::MAX_PROPERTIES;
 pub use pool::cell_at;
 pub use pool::range_is;
 pub use property::find_property;
@@ -24,6 +25,7 @@ pub use tree::parent_of;
 pub use words::node_count;
 pub use words::node_word;
 pub use words::prop_word;
+pub use words::wide;
 
 // A record's parent, or Top where it has none.
 pub enum Parent {
