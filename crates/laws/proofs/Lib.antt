@@ -1,6 +1,5 @@
 -- Laws about the definitions of specs/, and about the kit's lists and numbers.
 pub mod SearchLaws
-pub mod ShiftedSearchLaws
 pub mod FaultLaws
 pub mod FirstLaws
 pub mod ListingLaws

@@ -10,6 +10,5 @@ pub mod CodeLookup
 pub mod CodePool
 pub mod CodeRepeat
 pub mod CodeStarts
-pub mod PartLaws
 pub mod CodeStages
 pub mod CodeTree

@@ -1,9 +1,8 @@
 -- Where the properties of a node begin, so that a search for one of them can leave out what stands before.
 use mathlib.Core.List.{List}
-use Prim.Native.Nat.{ℕ, zero, suc, _*_, _/_, _%_, min}
+use Prim.Native.Nat.{ℕ, zero, suc, _%_, min}
 use lib.ListN.{getD, set, replicate}
-use Rattle.tables.specs.declared.PropertyIndex.{PropertyIndex}
-use Rattle.tables.specs.Board.{propCount, propNode}
+use Rattle.tables.specs.Board.{propNode}
 
 -- nodes share a place by their number modulo 1,024
 abbrev pub placeOf : ℕ → ℕ
@@ -16,10 +15,3 @@ startsBelow props (suc k) =
     let before = startsBelow props k in
     let place = placeOf (propNode props k) in
     set before place (min (getD before place 0) k)
-
-abbrev pub propertyIndex : List ℕ → PropertyIndex
-propertyIndex props = record { starts = startsBelow props (propCount props) }
-
--- the word at which the part of the property table begins that holds a node's properties
-abbrev pub partStart : List ℕ → ℕ → ℕ → ℕ
-partStart starts words node = 5 * min (getD starts (placeOf node) 0) (words / 5)

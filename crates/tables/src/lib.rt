@@ -16,9 +16,6 @@ pub use limits::MAX_PROPERTIES;
 pub use pool::cell_at;
 pub use pool::range_is;
 pub use property::find_property;
-pub use property::value_is;
-pub use starts::index_properties;
-pub use starts::part_start;
 pub use tree::is_below;
 pub use tree::name_is;
 pub use tree::parent_of;
@@ -37,9 +34,4 @@ pub enum Parent {
 pub enum Lookup {
     At(usize),
     Missing,
-}
-
-// Where the properties of each node start, by the node's number modulo 1,024.
-pub struct PropertyIndex {
-    pub starts: [u16; MAX_NODES],
 }

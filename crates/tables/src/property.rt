@@ -1,14 +1,13 @@
-// Properties of a record: finding one by name, and comparing its value.
+// Properties of a record: finding one by name.
 use crate::Lookup;
 use crate::pool::range_is;
-use crate::words::prop_word;
 use crate::words::wide;
 ghost use mathlib.Core.Path.{_≡_};
 ghost use mathlib.Core.Bool.{false, cond};
 ghost use Prim.Native.Nat.{_+_, _/_, _%_, _≤_};
 ghost use lib.Dec.{eqb};
 ghost use lib.ListN.{length};
-ghost use Rattle.tables.specs.Board.{propNode, keyLength, valueOffset, valueLength, rangeIs};
+ghost use Rattle.tables.specs.Board.{propNode, keyLength};
 ghost use Rattle.tables.specs.Property.{lookup};
 
 // Whether the property record whose words begin at `at` is the node's and has a name of `len` bytes.
@@ -38,13 +37,4 @@ pub fn find_property(props: &[u32], pool: &[u8], node: usize, key: &[u8]) -> Loo
         left -= 1;
     }
     Lookup::Missing
-}
-
-// Whether the value of property record k is the given one.
-pub fn value_is(props: &[u32], pool: &[u8], k: usize, bytes: &[u8]) -> bool
-    ensures { λ r.
-        let table = now (props .entry) in
-        ⌜ r ≡ rangeIs (now (pool .entry)) (valueOffset table k) (valueLength table k) (now (bytes .entry)) ⌝ }
-{
-    range_is(pool, prop_word(props, k, 3), prop_word(props, k, 4), bytes)
 }
