@@ -16,8 +16,7 @@ use Rattle.laws.proofs.TestLaws.{both-true}
 use Rattle.tables.specs.Limits.{maxPropertyName}
 use Rattle.tables.specs.Board.{range, rangeIs, propNode, keyOffset, keyLength, valueOffset, valueLength}
 use Rattle.tables.specs.Property.{isProperty}
-use Rattle.tables.specs.Check.{soundName, soundProperty, sameProperty, propertyFault}
-use Rattle.tables.proofs.CodePool.{word-zero}
+use Rattle.tables.specs.Check.{soundName, soundWords, soundProperty, sameProperty, propertyFault}
 
 -- a test after two that fail
 third : (a b c : Bool) → cond a false (cond b false c) ≡ true → c ≡ true
@@ -31,11 +30,24 @@ name-inside bytes most offset len h = leb-true _ _ (third (eqb len 0) (ltb most 
 
 module _ (count : ℕ) (props pool : List ℕ) where
   pub sound-inside : (k : ℕ) → soundProperty count props (length pool) k ≡ true → keyOffset props k + keyLength props k ≤ length pool
-  unfolding soundProperty
+  unfolding soundProperty soundWords
   sound-inside k h =
       let named = soundName (length pool) maxPropertyName (keyOffset props k) (keyLength props k) in
       let value = leb (valueOffset props k + valueLength props k) (length pool) in
       name-inside _ _ _ _ (both-true named (both-true (ltb (propNode props k) count) h .1) .0)
+
+  -- rule 7 tested by the five words of property k
+  pub words-sound :
+      (k : ℕ) {node start len value size : ℕ} {r : Bool} →
+      r ≡ soundWords count (length pool) node start len value size →
+      node ≡ propNode props k →
+      start ≡ keyOffset props k →
+      len ≡ keyLength props k →
+      value ≡ valueOffset props k →
+      size ≡ valueLength props k →
+      r ≡ soundProperty count props (length pool) k
+  unfolding soundProperty
+  words-sound k test n s l v z = cc
 
   pub fault-seven : (k : ℕ) → soundProperty count props (length pool) k ≡ false → 7 ≡ propertyFault count props pool k
   unfolding propertyFault
@@ -63,7 +75,7 @@ module _ (count : ℕ) (props pool : List ℕ) where
       (k at : ℕ) {node start len : ℕ} {r : Bool} →
       firstFault (propertyFault count props pool) k ≡ clear →
       at < 5 * k →
-      node ≡ getD props (5 * k + 0) 0 →
+      node ≡ propNode props k →
       start ≡ keyOffset props k →
       len ≡ keyLength props k →
       isProperty props pool node (range pool start (start + len - start)) (at / 5) ≡ r →
@@ -75,6 +87,6 @@ module _ (count : ℕ) (props pool : List ℕ) where
       let size : start + len - start ≡ len = omega arith in
       sym
       (ap₂ (λ (x : ℕ) (name : List ℕ). cond (eqb (propNode props j) x) (sameList (range pool (keyOffset props j) (keyLength props j)) name) false)
-      (n ∙ word-zero props (5 * k))
+      n
       (ap₂ (range pool) s l))
       ∙ rw (le-leb (keyOffset props j + keyLength props j) (length pool) inside, size) at test

@@ -1,9 +1,9 @@
 -- The property noted for a node: none before it is of that node. Assumes nothing.
-use mathlib.Core.Path.{_≡_, refl, ap, _∙_}
+use mathlib.Core.Path.{_≡_, refl, sym, ap, _∙_}
 use mathlib.Core.Bool.{Bool, true, false}
 use mathlib.Core.List.{List}
 use mathlib.Core.Logic.{⊎-elim}
-use Prim.Native.Nat.{ℕ, _+_, _*_, _≤_, _<_, min}
+use Prim.Native.Nat.{ℕ, _+_, _≤_, _<_, min}
 use native.Mathlib.Omega.{arith}
 use lib.Dec.{eqb}
 use lib.ListN.{length, getD, set}
@@ -15,7 +15,6 @@ use Rattle.laws.proofs.TestLaws.{both-true, false-unless}
 use Rattle.tables.specs.Board.{propNode}
 use Rattle.tables.specs.Check.{sameProperty}
 use Rattle.tables.specs.Starts.{placeOf}
-use Rattle.tables.proofs.CodePool.{word-zero}
 
 -- the property noted at a node's place
 abbrev noted : List ℕ → ℕ → ℕ
@@ -30,12 +29,9 @@ module _
     (k : ℕ)
     (before : Noted props starts k)
     {node first : ℕ}
-    (n : node ≡ getD props (5 * k + 0) 0)
+    (n : node ≡ propNode props k)
     (f : first ≡ min (noted starts node) k)
   where
-    own : propNode props k ≡ node
-    own = cc (n, word-zero props (5 * k))
-
     -- a property at the node's place, and one at another
     here : (j : ℕ) → j < k + 1 → placeOf (propNode props j) ≡ placeOf node → first ≤ j
     unfolding Noted
@@ -46,7 +42,7 @@ module _
     elsewhere j lt other = ⊎-elim (λ l. l) last (lt-or-le j k)
       where
         last : k ≤ j → j < k
-        last le = let q : j ≡ k = omega arith in absurd (other (ap (λ (i : ℕ). placeOf (propNode props i)) q ∙ ap placeOf own))
+        last le = let q : j ≡ k = omega arith in absurd (other (ap (λ (i : ℕ). placeOf (propNode props i)) q ∙ ap placeOf (sym n)))
 
     -- with property k noted
     pub noted-more : length starts ≡ 1024 → Noted props (set starts (placeOf node) first) (k + 1)
@@ -69,5 +65,5 @@ module _
         let t = any-place (sameProperty props pool k) first e in
         let j = t .0 in
         let same = eqb-true (propNode props j) (propNode props k) (both-true (eqb (propNode props j) (propNode props k)) (t .2) .0) in
-        let place = ap (noted starts) (same ∙ own) in
+        let place = ap (noted starts) (same ∙ sym n) in
         omega (arith, f, t .1, place, before j (omega (arith, f, t .1))))

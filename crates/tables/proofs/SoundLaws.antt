@@ -16,7 +16,7 @@ use Rattle.tables.specs.Limits.{maxNodes, maxProperties, maxPool, maxNod
 use Rattle.tables.specs.Board.{Board, Inside, nodeCount, parentWord, nameOffset, nameLength, propCount, propNode, propName, keyOffset, keyLength, valueOffset, valueLength}
 use Rattle.tables.specs.Tree.{isBelow, Ancestor}
 use Rattle.tables.specs.Rules.{TableRule}
-use Rattle.tables.specs.Check.{widthFault, nodeWordsFault, propWordsFault, poolFault, soundName, soundParent, nodeFault, soundProperty, sameProperty, propertyFault}
+use Rattle.tables.specs.Check.{widthFault, nodeWordsFault, propWordsFault, poolFault, soundName, soundParent, nodeFault, soundWords, soundProperty, sameProperty, propertyFault}
 use Rattle.tables.proofs.DepthLaws.{below-test, not-below-test}
 
 -- a test that is true where P holds and false where Q does
@@ -184,7 +184,7 @@ module _ (b : Board) where
     pub value : Inside (b .pool) (valueOffset (b .props) k) (valueLength (b .props) k)
 
   property-decides : (k : ℕ) → k < propCount (b .props) → Decides (SoundProperty k) (TableRule b 7 k) (soundProperty (nodeCount (b .nodes)) (b .props) (length (b .pool)) k)
-  unfolding soundProperty
+  unfolding soundProperty soundWords
   property-decides k lt =
       go
       (ltb (propNode (b .props) k) (nodeCount (b .nodes)))

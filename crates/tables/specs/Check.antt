@@ -39,12 +39,15 @@ unfoldable pub nodeFault : List ℕ → ℕ → ℕ → ℕ
 nodeFault nodes bytes i =
     cond (soundName bytes maxNodeName (nameOffset nodes i) (nameLength nodes i)) (cond (soundParent nodes i) 0 6) 5
 
+-- whether a property's five words keep rule 7 on a board of `count` node records and a pool of so many bytes
+unfoldable pub soundWords : ℕ → ℕ → ℕ → ℕ → ℕ → ℕ → ℕ → Bool
+soundWords count bytes node name len value size =
+    cond (ltb node count) (cond (soundName bytes maxPropertyName name len) (leb (value + size) bytes) false) false
+
 -- whether property k keeps rule 7
 unfoldable pub soundProperty : ℕ → List ℕ → ℕ → ℕ → Bool
 soundProperty count props bytes k =
-    cond (ltb (propNode props k) count)
-    (cond (soundName bytes maxPropertyName (keyOffset props k) (keyLength props k)) (leb (valueOffset props k + valueLength props k) bytes) false)
-    false
+    soundWords count bytes (propNode props k) (keyOffset props k) (keyLength props k) (valueOffset props k) (valueLength props k)
 
 -- whether property j has the node and the name of property k
 unfoldable pub sameProperty : List ℕ → List ℕ → ℕ → ℕ → Bool

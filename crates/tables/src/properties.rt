@@ -7,7 +7,6 @@ use crate::pool::sound_name;
 use crate::property::may_be;
 use crate::starts::NO_START;
 use crate::starts::start_of;
-use crate::words::prop_word;
 use crate::words::wide;
 use laws::BAD_PROPERTY;
 use laws::Fault;
@@ -15,22 +14,25 @@ use laws::REPEATED_PROPERTY;
 ghost use mathlib.Core.Path.{_≡_};
 ghost use Rattle.laws.specs.Fault.{firstFault};
 ghost use Rattle.tables.specs.Board.{propCount};
-ghost use Rattle.tables.specs.Check.{soundProperty, propertyFault};
+ghost use Rattle.tables.specs.Check.{soundWords, propertyFault};
 
-// Whether property k keeps rule 7 on a board of `count` node records and a pool of so many bytes.
-fn sound_property(count: usize, props: &[u32], bytes: usize, k: usize) -> bool
-    ensures { λ r. ⌜ r ≡ soundProperty count (now (props .entry)) bytes k ⌝ }
+// Whether a property's words keep rule 7 on a board of `count` node records and a pool of so many bytes.
+fn sound_property(
+    count: usize,
+    bytes: usize,
+    node: usize,
+    name: usize,
+    len: usize,
+    value: usize,
+    size: usize,
+) -> bool
+    ensures { λ r. ⌜ r ≡ soundWords count bytes node name len value size ⌝ }
 {
-    if count <= prop_word(props, k, 0) {
+    if count <= node {
         return false;
     }
-    if sound_name(
-        bytes,
-        MAX_PROPERTY_NAME,
-        prop_word(props, k, 1),
-        prop_word(props, k, 2),
-    ) {
-        return is_inside(bytes, prop_word(props, k, 3), prop_word(props, k, 4));
+    if sound_name(bytes, MAX_PROPERTY_NAME, name, len) {
+        return is_inside(bytes, value, size);
     }
     false
 }
@@ -45,17 +47,20 @@ pub fn first_property_fault(count: usize, props: &[u32], pool: &[u8]) -> Fault
     let mut starts = [NO_START; MAX_NODES];
     let mut k: usize = 0;
     'pairs: while k < n {
-        if !sound_property(count, props, pool.len(), k) {
+        let own = 5 * k;
+        let node = wide(props[own]);
+        let start = wide(props[own + 1]);
+        let len = wide(props[own + 2]);
+        let value = wide(props[own + 3]);
+        let size = wide(props[own + 4]);
+        if !sound_property(count, pool.len(), node, start, len, value, size) {
             let number = BAD_PROPERTY;
             return Fault { number, place: k };
         }
-        let node = prop_word(props, k, 0);
-        let start = prop_word(props, k, 1);
-        let len = prop_word(props, k, 2);
         let end = start + len;
         let name = &pool[start..end];
         let mut at = 5 * start_of(&mut starts, node, k);
-        while at < 5 * k {
+        while at < own {
             if may_be(props, node, len, at) {
                 if range_is(pool, wide(props[at + 1]), len, name) {
                     break 'pairs;
@@ -65,12 +70,10 @@ pub fn first_property_fault(count: usize, props: &[u32], pool: &[u8]) -> Fault
         }
         k += 1;
     }
-    if k < n {
-        return Fault {
-            number: REPEATED_PROPERTY,
-            place: k,
-        };
+    if n <= k {
+        let number = 0;
+        return Fault { number, place: 0 };
     }
-    let number = 0;
-    Fault { number, place: 0 }
+    let number = REPEATED_PROPERTY;
+    Fault { number, place: k }
 }

@@ -43,6 +43,9 @@ pub fn is_below(nodes: &[u32], i: usize, a: usize) -> bool
     let Parent::Is(p) = parent else {
         return false;
     };
+    if p <= a {
+        return p == a;
+    }
     reaches(nodes, p, a)
 }
 
