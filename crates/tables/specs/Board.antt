@@ -1,5 +1,4 @@
 -- A board's tables (01, "The tables"): the width, the words of the node and property records, the bytes of the pool.
-use mathlib.Core.Path.{_≡_}
 use mathlib.Core.Bool.{Bool, false, cond}
 use mathlib.Core.List.{List}
 use Prim.Native.Nat.{ℕ, _+_, _*_, _/_, _^_, _≤_, _<_}

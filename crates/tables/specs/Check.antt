@@ -5,7 +5,7 @@ use Prim.Native.Nat.{ℕ, zero, suc, _+_, _*_, _%_}
 use lib.Dec.{ltb, leb, eqb}
 use lib.ListN.{length}
 use Rattle.laws.specs.declared.Fault.{Fault}
-use Rattle.laws.specs.Fault.{told, orElse, firstFault, orNumber}
+use Rattle.laws.specs.Fault.{told, orElse, firstFault}
 use Rattle.laws.specs.Search.{anyBelow}
 use Rattle.laws.specs.Same.{sameList}
 use Rattle.tables.specs.Limits.{maxNodes, maxProperties, maxPool, maxNodeName, maxPropertyName, noParent}

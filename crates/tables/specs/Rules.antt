@@ -1,7 +1,7 @@
 -- Rules 1 to 8 as facts: each constructor is a way to break a rule of that number at that place.
 use mathlib.Core.Path.{_≡_}
 use mathlib.Core.Logic.{_⊎_}
-use Prim.Native.Nat.{ℕ, zero, suc, _%_, _<_, _≤_}
+use Prim.Native.Nat.{ℕ, suc, _%_, _<_, _≤_}
 use lib.ListN.{length}
 use Rattle.tables.specs.Limits.{maxNodes, maxProperties, maxPool, maxNodeName, maxPropertyName, noParent}
 use Rattle.tables.specs.Board.{Board, Inside, nodeCount, parentWord, nameOffset, nameLength, propCount, propNode, keyOffset, keyLength, propName, valueOffset, valueLength}
