@@ -33,7 +33,6 @@ module _ (count : ℕ) (props pool : List ℕ) where
   unfolding soundProperty soundWords
   sound-inside k h =
       let named = soundName (length pool) maxPropertyName (keyOffset props k) (keyLength props k) in
-      let value = leb (valueOffset props k + valueLength props k) (length pool) in
       name-inside _ _ _ _ (both-true named (both-true (ltb (propNode props k) count) h .1) .0)
 
   -- rule 7 tested by the five words of property k

@@ -101,13 +101,15 @@ wide-requires-5 c κs = search needs
 sound-property-requires : tie.Need-sound-property-requires Inv-loop μ-loop Inv-pairs μ-pairs
 sound-property-requires c κs = search needs
 
--- the words of property k that its name and node are read from, and the turn that reads them
+-- the place where node and name of property k are read
 abbrev words : tie.After-sound-property Inv-loop μ-loop Inv-pairs μ-pairs → tie.After-wide3 Inv-loop μ-loop Inv-pairs μ-pairs
 words c = c .before .before .before .before .before
 
+-- the turn that reads them
 abbrev turn : tie.After-sound-property Inv-loop μ-loop Inv-pairs μ-pairs → tie.In-pairs Inv-loop μ-loop Inv-pairs μ-pairs
 turn c = words c .before .before .before .before .before .before
 
+-- the start of the function
 abbrev start-at : tie.After-sound-property Inv-loop μ-loop Inv-pairs μ-pairs → tie.Start Inv-loop μ-loop Inv-pairs μ-pairs
 start-at c = turn c .before .before .before .before
 
