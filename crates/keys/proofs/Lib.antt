@@ -1,2 +1,5 @@
 -- Laws that belong to no one function.
 pub mod RangeLaws
+pub mod NameLaws
+pub mod NoteLaws
+pub mod IndexLaws

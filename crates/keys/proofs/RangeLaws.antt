@@ -5,18 +5,18 @@ use mathlib.Core.List.{List, _++_}
 use Prim.Native.Nat.{ℕ, _+_, _^_, _≤_, _<_}
 use native.Mathlib.Nat.{add-comm}
 use native.Mathlib.Omega.{arith}
-use lib.Dec.{eqb}
+use lib.Dec.{eqb, leb}
 use lib.ListN.{length, getD, take, drop, take-append-drop, length-drop}
 use lib.Seq.{take-take, take-add, drop-drop, drop-at, length-take-le}
+use borrow.Author.Tests.{leb-true}
 use Rattle.laws.proofs.DecideLaws.{Decides, both-decides, decides-not}
 use Rattle.tables.specs.Board.{Inside, range, rangeIs}
 use Rattle.tables.specs.Property.{cellBytes, cellAt}
 use Rattle.tables.proofs.CellLaws.{cell-is}
 use Rattle.tables.proofs.LookupLaws.{range-is-true, true-range-is}
-use Rattle.keys.specs.Key.{phandleKey, deviceTypeKey}
 
 -- two tests of one fact are equal
-same-test : {s t : Bool} {P Q : Type 0} → Decides s P → Decides t Q → (P → Q) → (Q → P) → s ≡ t
+pub same-test : {s t : Bool} {P Q : Type 0} → Decides s P → Decides t Q → (P → Q) → (Q → P) → s ≡ t
 same-test {s} {t} {P} {Q} g h to from = go s refl
   where
     go : (r : Bool) → s ≡ r → s ≡ t
@@ -24,7 +24,7 @@ same-test {s} {t} {P} {Q} g h to from = go s refl
     go false e = e ∙ sym (decides-not h .1 (λ q. decides-not g .0 e (from q)))
 
 -- the test of a range decides whether it lies in the pool and holds the bytes
-range-decides : (pool : List ℕ) (offset len : ℕ) (bytes : List ℕ) → Decides (rangeIs pool offset len bytes) (Inside pool offset len × (range pool offset len ≡ bytes))
+pub range-decides : (pool : List ℕ) (offset len : ℕ) (bytes : List ℕ) → Decides (rangeIs pool offset len bytes) (Inside pool offset len × (range pool offset len ≡ bytes))
 range-decides pool offset len bytes = (range-is-true pool offset len bytes, λ h. true-range-is pool offset len bytes (h .0) (h .1))
 
 -- the front and the end of a list, which may overlap, are those of a name
@@ -79,6 +79,11 @@ two-cells pool offset s a b name bytes le la lb na nb size front end =
     (cell-is pool (offset + s) b bytes lb nb ∙ ap (rangeIs pool (offset + s) 4) (sym end))
     ∙ two-ranges pool offset 4 4 s name le (omega arith) size
 
-module _ (pool : List ℕ) (offset : ℕ) (bytes : (i : ℕ) → getD pool i 0 < 256) where
-  pub phandle-cells : cond (eqb (cellAt pool offset) 0x7068616e) (eqb (cellAt pool (offset + 3)) 0x6e646c65) false ≡ rangeIs pool offset 7 phandleKey
-  phandle-cells = two-cells pool offset 3 0x7068616e 0x6e646c65 phandleKey bytes (omega arith) (omega arith) (omega arith) (λ e. omega arith) (λ e. omega arith) refl refl refl
+-- where a cell is read that is not 0, it lies in the pool
+pub cell-inside : (pool : List ℕ) (at w : ℕ) → (w ≡ 0 → ⊥) → cellAt pool at ≡ w → at + 4 ≤ length pool
+unfolding cellAt
+cell-inside pool at w some = go (leb (at + 4) (length pool)) _ refl
+  where
+    go : (t : Bool) (n : ℕ) → leb (at + 4) (length pool) ≡ t → cond t n 0 ≡ w → at + 4 ≤ length pool
+    go true n e h = leb-true (at + 4) (length pool) e
+    go false n e h = absurd (some (sym h))
