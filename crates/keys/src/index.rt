@@ -76,10 +76,11 @@ pub fn index_keys(props: &[u32], pool: &[u8], table: &mut [u16; KEY_WORDS])
 pub fn find_key(table: &[u16; KEY_WORDS], i: usize, key: Key) -> Lookup
     ensures { λ r. ⌜ r ≡ keyAt (now (table .entry)) i key ⌝ }
 {
+    let words = &table[..];
     if MAX_NODES <= i {
         return Lookup::Missing;
     }
-    let noted = table[KEYS * i + key_number(key)] as usize;
+    let noted = words[KEYS * i + key_number(key)] as usize;
     if noted == 0 {
         return Lookup::Missing;
     }

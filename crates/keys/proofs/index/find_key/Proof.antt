@@ -1,49 +1,46 @@
+-- `find_key` meets its contract: a word of the table tells. Assumes nothing.
+use Prim.Native.Nat.{_+_, _*_, _<_}
+use native.Mathlib.Omega.{arith}
 use borrow.Author.Needs.{needs}
+use Rattle.keys.proofs.IndexLaws.{number-lt, key-beyond, key-none, key-some}
 use Rattle.keys.proofs.index.find_key.Statement.{statement}
 use Rattle.keys.proofs.index.find_key.Tie as tie
-use Rattle.keys.proofs.index.find_key.Reads as reads
-use Rattle.keys.proofs.index.find_key.Lts as lts
-use Rattle.keys.proofs.name.key_number.Reads as key-number-reads
 
--- src/index.rt:80:9
 returns : tie.Need-returns
-returns c = ?
+returns c = key-beyond _ _ _ (omega (arith, c .before .words .given))
 
--- src/index.rt:82:23
 mul-noted : tie.Need-mul-noted
 mul-noted c = search needs
 
--- src/index.rt:82:34
 key-number-requires : tie.Need-key-number-requires
 key-number-requires c κs = search needs
 
--- src/index.rt:82:23
+-- the key's number is below 4
+number : (c : tie.After-key-number) → c .key-number .result < 4
+number c = rw (c .key-number .ensures) (number-lt (c .before .before .before .args .key))
+
 add-noted : tie.Need-add-noted
-add-noted c = ?
+add-noted c = omega (arith, number c)
 
--- src/index.rt:82:17
 mul-noted-2 : tie.Need-mul-noted-2
-mul-noted-2 c = ?
+mul-noted-2 c = omega (arith, number c)
 
--- src/index.rt:82:17
-element-copy-out-noted : tie.Need-element-copy-out-noted
-element-copy-out-noted c = ?
+shared-slice-read-noted : tie.Need-shared-slice-read-noted
+shared-slice-read-noted c = omega (arith, number (c .before), c .before .before .before .words .given)
 
--- src/index.rt:82:17
 cast-noted : tie.Need-cast-noted
-cast-noted c = ?
+cast-noted c =
+    let number = c .before in
+    omega (arith, c .shared-slice-known .given (4 * number .before .before .before .args .i + number .key-number .result))
 
--- src/index.rt:84:9
 returns-2 : tie.Need-returns-2
-returns-2 c = ?
+returns-2 c = key-none _ _ _ (c .before .before .key-number .ensures) (c .if2 .taken)
 
--- src/index.rt:86:16
-sub-t6 : tie.Need-sub-t6
-sub-t6 c = search needs
+sub-t8 : tie.Need-sub-t8
+sub-t8 c = search needs
 
--- src/index.rt:76:1
 returns-3 : tie.Need-returns-3
-returns-3 c = ?
+returns-3 c = key-some _ _ _ (c .before .before .key-number .ensures) (c .if2 .left)
 
 pub find-key-spec : {M : Type 1} → statement M
 find-key-spec =
@@ -54,8 +51,8 @@ find-key-spec =
     key-number-requires
     add-noted
     mul-noted-2
-    element-copy-out-noted
+    shared-slice-read-noted
     cast-noted
     returns-2
-    sub-t6
+    sub-t8
     returns-3)

@@ -22,9 +22,9 @@ tested :
     (c : tie.After-cell-at) →
     let a = c .before .before .args in
     cond
-        (eqb (c .cell-at .result) 0x64657669)
-        (cond (eqb (cellAt (a .pool .now) (a .offset + 4)) 0x63655f74) (eqb (cellAt (a .pool .now) (a .offset + 7)) 0x74797065) false)
-        false
+    (eqb (c .cell-at .result) 0x64657669)
+    (cond (eqb (cellAt (a .pool .now) (a .offset + 4)) 0x63655f74) (eqb (cellAt (a .pool .now) (a .offset + 7)) 0x74797065) false)
+    false
     ≡ rangeIs (a .pool .now) (a .offset) 11 deviceTypeKey
 tested c =
     let a = c .before .before .args in
