@@ -1,5 +1,5 @@
 -- A property noted in a table: the words of the table after it. Assumes nothing.
-use mathlib.Core.Path.{_≡_, refl, sym, ap, ap₂, _∙_}
+use mathlib.Core.Path.{_≡_, refl, _∙_}
 use mathlib.Core.Bool.{Bool, true, false, cond}
 use mathlib.Core.List.{List}
 use Prim.Native.Nat.{ℕ, zero, suc, _+_, _*_, _<_}
@@ -52,7 +52,7 @@ module _ (table : List ℕ) (at k : ℕ) where
       go false = refl
 
 -- the word of record i and key number n, after property k of a record was noted
-module _ (table pool : List ℕ) (node offset len k i n : ℕ) (size : length table ≡ 4096) (low : node < maxNodes) (small : n < 4) where
+module _ (table pool : List ℕ) (node offset len k i n : ℕ) (size : length table ≡ 4 * maxNodes) (low : node < maxNodes) (small : n < 4) where
   abbrev place : ℕ
   place = 4 * i + n
 

@@ -52,7 +52,7 @@ fn fewer(a: usize, b: usize) -> usize
     b
 }
 
-// Notes where the keys of each record stand, in a table of zeros.
+// Notes in a table, made of zeros, where the keys of each record stand.
 pub fn index_keys(props: &[u32], pool: &[u8], table: &mut [u16; KEY_WORDS])
     ensures { λ _. ⌜ now (table .exit) ≡ keysOf (now (table .entry)) (now (props .entry)) (now (pool .entry)) ⌝ }
 {

@@ -2,7 +2,8 @@
 use Prim.Native.Nat.{_+_, _*_, _<_}
 use native.Mathlib.Omega.{arith}
 use borrow.Author.Needs.{needs}
-use Rattle.keys.proofs.IndexLaws.{number-lt, key-beyond, key-none, key-some}
+use Rattle.keys.proofs.KeyLaws.{number-lt}
+use Rattle.keys.proofs.CodeLaws.{key-beyond, key-none, key-some}
 use Rattle.keys.proofs.index.find_key.Statement.{statement}
 use Rattle.keys.proofs.index.find_key.Tie as tie
 

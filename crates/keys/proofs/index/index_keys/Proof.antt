@@ -5,7 +5,7 @@ use native.Mathlib.Omega.{arith}
 use Rattle.tables.specs.Limits.{maxProperties}
 use Rattle.tables.specs.Board.{propCount}
 use Rattle.keys.specs.Index.{keysBelow}
-use Rattle.keys.proofs.IndexLaws.{keys-more}
+use Rattle.keys.proofs.CodeLaws.{keys-more}
 use borrow.Author.Needs.{needs}
 use Rattle.keys.proofs.index.index_keys.Statement.{statement}
 use Rattle.keys.proofs.index.index_keys.Tie as tie
