@@ -3,7 +3,7 @@ pub mod ShapeLaws
 pub mod WordMeans
 pub mod FitUnique
 pub mod RowLaws
-pub mod AboveLaws
+pub mod PositionLaws
 pub mod TurnLaws
 pub mod WrittenLaws
 pub mod SourceMeans

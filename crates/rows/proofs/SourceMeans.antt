@@ -2,25 +2,21 @@
 use mathlib.Core.Path.{_≡_, sym, _∙_}
 use mathlib.Core.List.{List, map}
 use Prim.Native.Nat.{ℕ, _≤_, _<_}
-use native.Mathlib.Omega.{arith}
 use lib.ListN.{length, getD, length-map}
 use Rattle.laws.specs.Listing.{Listing}
-use Rattle.laws.specs.Pad.{padded}
 use Rattle.laws.proofs.IndexLaws.{getD-map-lt}
-use Rattle.laws.proofs.PadLaws.{pad-at}
-use Rattle.laws.proofs.PadMapLaws.{pad-map}
 use Rattle.affinity.specs.Mask.{maskOf}
 use Rattle.affinity.specs.Hash.{slotIn}
 use Rattle.tables.specs.Board.{Board, Typed}
 use Rattle.tables.specs.Rules.{WellFormed}
 use Rattle.cpus.specs.Rules.{CpuRule, SoundCpus}
-use Rattle.cpus.specs.Check.{cpuCount, cpuList, mpidrAt, cpusOf}
+use Rattle.cpus.specs.Check.{cpuCount, cpuList, mpidrAt}
 use Rattle.cpus.proofs.CpuMeans.{cpu-listing, cpu-count}
-use Rattle.cpus.proofs.CpuGives.{count-range, cpu-reg}
+use Rattle.cpus.proofs.CpuGives.{cpu-reg}
 use Rattle.topology.specs.Map.{Map, Leaf, Names}
 use Rattle.topology.specs.Find.{mapOf}
 use Rattle.topology.specs.Rules.{MapRule}
-use Rattle.topology.specs.Scan.{Tree, cpuOf, leafList, leavesOf}
+use Rattle.topology.specs.Scan.{Tree, cpuOf, leafList}
 use Rattle.topology.proofs.MapMeans.{map-of, map-found}
 use Rattle.topology.proofs.PhandleMeans.{cpuAt}
 use Rattle.topology.proofs.CheckLeaf.{treeAt}
@@ -39,7 +35,16 @@ abbrev pub theMpidrs : Board → List ℕ
 theMpidrs b = map (mpidrAt b) (cpuList b)
 
 abbrev pub theSource : Board → Source
-theSource b = record { nodes = b .nodes; pool = b .pool; cpus = cpusOf b; leaves = leavesOf (theTree b); mask = maskOf (theMpidrs b) }
+theSource b =
+    record {
+      nodes = b .nodes;
+      pool = b .pool;
+      cpus = cpuList b;
+      mpidrs = theMpidrs b;
+      leaves = leafList (theTree b);
+      named = map (cpuOf (theTree b)) (leafList (theTree b));
+      mask = maskOf (theMpidrs b);
+    }
 
 -- the number of rows; the leaf and the cpu record of row k
 abbrev pub leafCount : Board → ℕ
@@ -104,25 +109,16 @@ module _ {b : Board} (typed : Typed b) (well : WellFormed b) (sound : SoundCpus 
         each = λ k lt. let t = cpu-reg typed well sound (cpu-listing well .only k lt) in (t .0, t .1, t .2, getD-map-lt (mpidrAt b) (cpuList b) k lt ∙ t .3);
       }
 
-  few : length (cpuList b) ≤ 256
-  few = omega (arith, count-range typed well sound .1, cpu-count b)
-
   -- row k is that of leaf k and of the cpu record that it names
   pub row-number : LeafFacts b → (k : ℕ) → k < leafCount b → rowNumber (theSource b) k ≡ leafRow b (leafAt b k) (cpuIn b (leafAt b k))
-  unfolding rowNumber leavesOf cpusOf
-  row-number leaves k lt = rw (leaf, index, cpu, number)
+  unfolding rowNumber
+  row-number leaves k lt = rw (index, number)
     where
       in-cpus : cpuOf (theTree b) (leafAt b k) < length (cpuList b)
       in-cpus = leaves .index (leafAt b k) (leaves .listing .only k lt)
 
-      leaf : getD (padded 256 (leafList (theTree b))) k 0 ≡ leafAt b k
-      leaf = pad-at 256 (leafList (theTree b)) k lt (omega (arith, few, leaves .count))
+      index : getD (map (cpuOf (theTree b)) (leafList (theTree b))) k 0 ≡ cpuOf (theTree b) (leafAt b k)
+      index = getD-map-lt (cpuOf (theTree b)) (leafList (theTree b)) k lt
 
-      index : getD (padded 256 (map (cpuOf (theTree b)) (leafList (theTree b)))) k 0 ≡ cpuOf (theTree b) (leafAt b k)
-      index = pad-map 256 (cpuOf (theTree b)) (leafList (theTree b)) k lt (omega (arith, few, leaves .count))
-
-      cpu : getD (padded 256 (cpuList b)) (cpuOf (theTree b) (leafAt b k)) 0 ≡ cpuIn b (leafAt b k)
-      cpu = pad-at 256 (cpuList b) (cpuOf (theTree b) (leafAt b k)) in-cpus few
-
-      number : getD (padded 256 (theMpidrs b)) (cpuOf (theTree b) (leafAt b k)) 0 ≡ mpidrAt b (cpuIn b (leafAt b k))
-      number = pad-map 256 (mpidrAt b) (cpuList b) (cpuOf (theTree b) (leafAt b k)) in-cpus few
+      number : getD (theMpidrs b) (cpuOf (theTree b) (leafAt b k)) 0 ≡ mpidrAt b (cpuIn b (leafAt b k))
+      number = getD-map-lt (mpidrAt b) (cpuList b) (cpuOf (theTree b) (leafAt b k)) in-cpus

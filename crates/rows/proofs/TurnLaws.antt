@@ -14,17 +14,17 @@ use Rattle.rows.specs.declared.Row.{Row}
 use Rattle.rows.specs.Fits.{rowSize}
 use Rattle.rows.specs.Row.{rowWords}
 use Rattle.rows.specs.Write.{Source, rowFrom, rowNumber, rowsBelow}
-use Rattle.rows.proofs.RowLaws.{row-length, rows-length}
+use Rattle.rows.proofs.RowLaws.{rows-length}
 
--- row k from the arrays and the hash of a mask
+-- row k from the lists and the hash of a mask
 pub from-number :
-    (s : Source) (k : ℕ) {leaf index : ℕ} {hash : Hash} →
-    leaf ≡ getD (s .leaves .records) k 0 →
-    index ≡ getD (s .leaves .cpus) k 0 →
+    (s : Source) (k : ℕ) {r : Row} {index : ℕ} {hash : Hash} →
+    r ≡ rowFrom (s .nodes) (s .pool) (getD (s .leaves) k 0) (s .cpus) (s .mpidrs) index hash →
+    index ≡ getD (s .named) k 0 →
     hash ≡ hashOfMask (s .mask) →
-    rowFrom (s .nodes) (s .pool) leaf (s .cpus .records) (s .cpus .mpidrs) index hash ≡ rowNumber s k
+    r ≡ rowNumber s k
 unfolding rowNumber
-from-number s k l i e = rw (l, i, e, slot-guarded (s .mask))
+from-number s k e i h = e ∙ rw (i, h, slot-guarded (s .mask))
 
 -- one row more
 pub row-more :

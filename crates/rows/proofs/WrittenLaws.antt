@@ -10,27 +10,27 @@ use Rattle.rows.specs.Fits.{rowSize}
 use Rattle.rows.specs.Write.{Source, rowsBelow, written}
 use Rattle.rows.proofs.RowLaws.{rows-length}
 
-module _ (s : Source) (before : List ℕ) (room : rowSize * s .leaves .count ≤ length before) where
+module _ (s : Source) (before : List ℕ) (room : rowSize * length (s .leaves) ≤ length before) where
   abbrev words : ℕ
-  words = rowSize * s .leaves .count
+  words = rowSize * length (s .leaves)
 
   abbrev rows : List ℕ
-  rows = rowsBelow s (s .leaves .count)
+  rows = rowsBelow s (length (s .leaves))
 
   pub written-is : written s before ≡ rows ++ drop words before
   unfolding written
   written-is = rw (le-leb words (length before) room)
 
   pub written-front : take words (written s before) ≡ rows
-  written-front = rw written-is (take-at rows (drop words before) words (rows-length s (s .leaves .count)))
+  written-front = rw written-is (take-at rows (drop words before) words (rows-length s (length (s .leaves))))
 
   pub written-rest : drop words (written s before) ≡ drop words before
-  written-rest = rw written-is (drop-at rows (drop words before) words (rows-length s (s .leaves .count)))
+  written-rest = rw written-is (drop-at rows (drop words before) words (rows-length s (length (s .leaves))))
 
   pub written-length : length (written s before) ≡ length before
   written-length =
-      rw (written-is, length-append rows (drop words before), rows-length s (s .leaves .count), length-drop words before) (omega arith)
+      rw (written-is, length-append rows (drop words before), rows-length s (length (s .leaves)), length-drop words before) (omega arith)
 
   pub written-at : (i : ℕ) → i < words → getD (written s before) i 0 ≡ getD rows i 0
   written-at i lt =
-      let size = rows-length s (s .leaves .count) in rw written-is (List·getD-append rows (drop words before) 0 i (omega arith))
+      let size = rows-length s (length (s .leaves)) in rw written-is (List·getD-append rows (drop words before) 0 i (omega arith))

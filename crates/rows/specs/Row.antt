@@ -1,15 +1,16 @@
 -- The row of a leaf, as the writer makes it.
+use mathlib.Core.Bool.{Bool, true, false}
 use mathlib.Core.List.{List, [], _∷_}
 use Prim.Native.Nat.{ℕ, _/_, _%_, _^_}
 use lib.ListN.{getD}
 use Rattle.names.specs.declared.TopologyName.{TopologyName}
 use Rattle.names.specs.declared.TopologyName.the-variants.{Socket, Cluster, Core, Thread, Other}
 use Rattle.tables.specs.Board.{parentWord}
-use Rattle.topology.specs.declared.ClusterPath.{ClusterPath}
-use Rattle.topology.specs.Path.{gap, topologyName, clusterPath, socketNumber, positionOf}
+use Rattle.tables.specs.declared.Parent.{Parent}
+use Rattle.tables.specs.declared.Parent.the-variants.{Is, Top}
+use Rattle.topology.specs.Path.{gap, topologyName, clusterPath, socketNumber}
 use Rattle.topology.specs.Check.{topologyNumber}
 use Rattle.rows.specs.declared.Row.{Row}
-use Rattle.rows.specs.declared.Above.{Above}
 
 -- the core's number: the leaf's own, or for a thread its parent's
 abbrev pub coreOf : TopologyName → TopologyName → ℕ
@@ -26,9 +27,14 @@ threadOf (Core n) = gap
 threadOf (Thread n) = n
 threadOf Other = gap
 
--- what is known of a record that leaves stand under
-unfoldable pub aboveOf : List ℕ → List ℕ → ℕ → Above
-aboveOf nodes pool i = record { parent = i; name = topologyName nodes pool i; position = positionOf nodes pool i }
+-- whether a record has its parent's position: it is neither a socket nor a cluster
+abbrev pub keepsPosition : Parent → TopologyName → Bool
+keepsPosition (Is p) (Socket n) = false
+keepsPosition (Is p) (Cluster n) = false
+keepsPosition (Is p) (Core n) = true
+keepsPosition (Is p) (Thread n) = true
+keepsPosition (Is p) Other = true
+keepsPosition Top name = false
 
 -- the row of leaf record i, which names a cpu record with an MPIDR and a slot; a word holds the low 32 bits of a record number
 unfoldable pub rowOf : List ℕ → List ℕ → ℕ → ℕ → ℕ → ℕ → Row

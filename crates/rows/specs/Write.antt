@@ -6,31 +6,32 @@ use lib.Dec.{leb}
 use lib.ListN.{length, getD, drop}
 use Rattle.affinity.specs.declared.Hash.{Hash}
 use Rattle.affinity.specs.Hash.{hashOfMask, slotOf, slotGuarded}
-use Rattle.cpus.specs.declared.Cpus.{Cpus}
-use Rattle.topology.specs.declared.Leaves.{Leaves}
 use Rattle.rows.specs.declared.Row.{Row}
 use Rattle.rows.specs.Fits.{rowSize}
 use Rattle.rows.specs.Row.{rowOf, rowWords}
 
--- what the rows are made of: the tables, the cpu records, the leaves, and the mask of the MPIDRs
+-- what the rows are made of: the tables, the cpu records and their MPIDRs, the leaves and for each the index of the cpu record that it names, and the mask
 pub record Source : Type 0 where
   pub nodes : List ℕ
   pub pool : List ℕ
-  pub cpus : Cpus
-  pub leaves : Leaves
+  pub cpus : List ℕ
+  pub mpidrs : List ℕ
+  pub leaves : List ℕ
+  pub named : List ℕ
   pub mask : ℕ
 
-abbrev pub source : List ℕ → List ℕ → Cpus → Leaves → ℕ → Source
-source nodes pool cpus leaves mask = record { nodes = nodes; pool = pool; cpus = cpus; leaves = leaves; mask = mask }
+abbrev pub source : (nodes pool cpus mpidrs leaves named : List ℕ) → ℕ → Source
+source nodes pool cpus mpidrs leaves named mask =
+    record { nodes = nodes; pool = pool; cpus = cpus; mpidrs = mpidrs; leaves = leaves; named = named; mask = mask }
 
 -- row number k
 unfoldable pub rowNumber : Source → ℕ → Row
 rowNumber s k =
-    let cpu = getD (s .leaves .cpus) k 0 in
-    let m = getD (s .cpus .mpidrs) cpu 0 in
-    rowOf (s .nodes) (s .pool) (getD (s .leaves .records) k 0) (getD (s .cpus .records) cpu 0) m (slotOf (hashOfMask (s .mask)) m)
+    let cpu = getD (s .named) k 0 in
+    let m = getD (s .mpidrs) cpu 0 in
+    rowOf (s .nodes) (s .pool) (getD (s .leaves) k 0) (getD (s .cpus) cpu 0) m (slotOf (hashOfMask (s .mask)) m)
 
--- a leaf's row from the arrays of the cpu records, the index of its cpu and a hash
+-- a leaf's row from the cpu records, their MPIDRs, the index of its cpu and a hash
 abbrev pub rowFrom : List ℕ → List ℕ → ℕ → List ℕ → List ℕ → ℕ → Hash → Row
 rowFrom nodes pool leaf cpus mpidrs index hash =
     let m = getD mpidrs index 0 in
@@ -48,4 +49,5 @@ hasRoom words n = leb (rowSize * n) words
 -- the buffer after the writing: the rows, and then what it held; unchanged where there is no room
 unfoldable pub written : Source → List ℕ → List ℕ
 written s before =
-    cond (hasRoom (length before) (s .leaves .count)) (rowsBelow s (s .leaves .count) ++ drop (rowSize * s .leaves .count) before) before
+    let n = length (s .leaves) in
+    cond (hasRoom (length before) n) (rowsBelow s n ++ drop (rowSize * n) before) before

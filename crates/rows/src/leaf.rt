@@ -1,25 +1,27 @@
 // The row of one leaf.
-use crate::Above;
 use crate::Row;
 use names::TopologyName;
+use tables::Parent;
 use tables::parent_of;
 use topology::GAP;
-use topology::position_under;
+use topology::Position;
+use topology::position_of;
 use topology::topology_name;
 use topology::topology_number;
 ghost use mathlib.Core.Path.{_≡_};
 ghost use Rattle.tables.specs.Board.{parentWord};
-ghost use Rattle.rows.specs.Row.{coreOf, threadOf, aboveOf, rowOf};
+ghost use Rattle.topology.specs.Path.{topologyName, positionOf};
+ghost use Rattle.rows.specs.Row.{coreOf, threadOf, keepsPosition, rowOf};
 
-// The number of a leaf's core: its own, or for a thread its parent's.
-fn core_of(name: TopologyName, parent: TopologyName) -> u32
-    ensures { λ r. ⌜ r ≡ coreOf name parent ⌝ }
+// The number of a leaf's core: its own, or for a thread that of its parent p.
+fn core_of(nodes: &[u32], pool: &[u8], name: TopologyName, p: usize) -> u32
+    ensures { λ r. ⌜ r ≡ coreOf name (topologyName (now (nodes .entry)) (now (pool .entry)) p) ⌝ }
 {
     match name {
         TopologyName::Socket(_) => GAP,
         TopologyName::Cluster(_) => GAP,
         TopologyName::Core(n) => n,
-        TopologyName::Thread(_) => topology_number(parent),
+        TopologyName::Thread(_) => topology_number(topology_name(nodes, pool, p)),
         TopologyName::Other => GAP,
     }
 }
@@ -36,22 +38,57 @@ fn thread_of(name: TopologyName) -> u32
     }
 }
 
-// The row of a leaf record that names a cpu record with an MPIDR and a slot, given what is known of its parent.
+// Whether a record of that name, under that parent, has its parent's position: it is neither a socket nor a cluster.
+fn keeps_position(parent: Parent, name: TopologyName) -> bool
+    ensures { λ r. ⌜ r ≡ keepsPosition parent name ⌝ }
+{
+    match parent {
+        Parent::Is(_) => match name {
+            TopologyName::Socket(_) => false,
+            TopologyName::Cluster(_) => false,
+            TopologyName::Core(_) => true,
+            TopologyName::Thread(_) => true,
+            TopologyName::Other => true,
+        },
+        Parent::Top => false,
+    }
+}
+
+// The position of a leaf, given its name and the position of the record that its parent word names.
+fn leaf_position(
+    nodes: &[u32],
+    pool: &[u8],
+    leaf: usize,
+    name: TopologyName,
+    above: Position,
+) -> Position
+    requires name { ⌜ name ≡ topologyName (now nodes) (now pool) leaf ⌝ }
+    requires above { ⌜ above ≡ positionOf (now nodes) (now pool) (parentWord (now nodes) leaf) ⌝ }
+    ensures { λ r. ⌜ r ≡ positionOf (now (nodes .entry)) (now (pool .entry)) leaf ⌝ }
+{
+    if keeps_position(parent_of(nodes, leaf), name) {
+        return above;
+    }
+    position_of(nodes, pool, leaf)
+}
+
+// The row of a leaf record that names a cpu record with an MPIDR and a slot, given its parent p and the position of p.
 pub fn row_of(
     nodes: &[u32],
     pool: &[u8],
-    above: Above,
+    p: usize,
+    above: Position,
     leaf: usize,
     cpu: usize,
     mpidr: u64,
     slot: u32,
 ) -> Row
-    requires { ⌜ above ≡ aboveOf (now nodes) (now pool) (parentWord (now nodes) leaf) ⌝ }
+    requires parent { ⌜ p ≡ parentWord (now nodes) leaf ⌝ }
+    requires above { ⌜ above ≡ positionOf (now nodes) (now pool) p ⌝ }
     ensures { λ r. ⌜ r ≡ rowOf (now (nodes .entry)) (now (pool .entry)) leaf cpu mpidr slot ⌝ }
 {
     let name = topology_name(nodes, pool, leaf);
-    let parent = above.name;
-    let position = position_under(parent_of(nodes, leaf), name, above.position);
+    let position = leaf_position(nodes, pool, leaf, name, above);
     let path = position.clusters.numbers;
     Row {
         leaf: (leaf % 4294967296) as u32,
@@ -60,7 +97,7 @@ pub fn row_of(
         lower: (mpidr % 4294967296) as u32,
         socket: position.socket,
         path,
-        core: core_of(name, parent),
+        core: core_of(nodes, pool, name, p),
         thread: thread_of(name),
         slot,
     }

@@ -1,10 +1,7 @@
 // Rows of twelve words: one for each leaf, written into a lent buffer.
 mod leaf;
-mod parent;
 mod write;
 
-use names::TopologyName;
-use topology::Position;
 pub use write::write_rows;
 
 // The words of a row.
@@ -21,11 +18,4 @@ pub struct Row {
     pub core: u32,
     pub thread: u32,
     pub slot: u32,
-}
-
-// What is known of a record that leaves stand under.
-struct Above {
-    parent: usize,
-    name: TopologyName,
-    position: Position,
 }

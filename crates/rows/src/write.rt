@@ -1,20 +1,19 @@
 // Writing rows: each into its own words of the lent buffer.
-use crate::Above;
 use crate::ROW_WORDS;
 use crate::Row;
 use crate::leaf::row_of;
-use crate::parent::above_leaf;
-use crate::parent::above_of;
 use affinity::Hash;
-use cpus::Cpus;
-use topology::Leaves;
+use tables::node_word;
+use topology::Position;
+use topology::position_of;
 ghost use mathlib.Core.Path.{_≡_};
 ghost use mathlib.Core.List.{_++_};
 ghost use Prim.Native.Nat.{_≤_};
 ghost use lib.ListN.{length, drop, getD};
 ghost use Rattle.tables.specs.Board.{parentWord};
+ghost use Rattle.topology.specs.Path.{positionOf};
 ghost use Rattle.rows.specs.Fits.{rowSize};
-ghost use Rattle.rows.specs.Row.{aboveOf, rowWords};
+ghost use Rattle.rows.specs.Row.{rowWords};
 ghost use Rattle.rows.specs.Write.{hasRoom, written, source, rowFrom};
 
 // Writes a row at the start of a part of the row buffer.
@@ -36,7 +35,7 @@ fn put_row(part: &mut [u32], row: Row)
     part[11] = row.slot;
 }
 
-// An element of an array, 0 outside it.
+// An element of a list, 0 outside it.
 fn record_at(list: &[usize], k: usize) -> usize
     ensures { λ r. ⌜ r ≡ getD (now (list .entry)) k 0 ⌝ }
 {
@@ -55,29 +54,43 @@ fn mpidr_at(list: &[u64], k: usize) -> u64
     0
 }
 
-// The row of a leaf, given what is known of its parent and the index of its cpu among the cpu records.
-fn leaf_row<'a>(
+// The position of record p, given that of the record `last`.
+fn position_at(nodes: &[u32], pool: &[u8], p: usize, last: usize, above: Position) -> Position
+    requires { ⌜ above ≡ positionOf (now nodes) (now pool) last ⌝ }
+    ensures { λ r. ⌜ r ≡ positionOf (now (nodes .entry)) (now (pool .entry)) p ⌝ }
+{
+    if p == last {
+        return above;
+    }
+    position_of(nodes, pool, p)
+}
+
+// The row of a leaf, given its parent p, the position of p and the index of its cpu among the cpu records.
+fn leaf_row(
     nodes: &[u32],
     pool: &[u8],
-    above: Above,
+    p: usize,
+    above: Position,
     leaf: usize,
-    cpu_records: &'a [usize],
-    mpidrs: &'a [u64],
+    cpus: &[usize],
+    mpidrs: &[u64],
     index: usize,
     hash: Hash,
 ) -> Row
-    requires { ⌜ above ≡ aboveOf (now nodes) (now pool) (parentWord (now nodes) leaf) ⌝ }
+    requires parent { ⌜ p ≡ parentWord (now nodes) leaf ⌝ }
+    requires above { ⌜ above ≡ positionOf (now nodes) (now pool) p ⌝ }
     ensures { λ r.
-        ⌜ r ≡ rowFrom (now (nodes .entry)) (now (pool .entry)) leaf (now («cpu_records» .entry)) (now (mpidrs .entry)) index hash ⌝ }
+        ⌜ r ≡ rowFrom (now (nodes .entry)) (now (pool .entry)) leaf (now (cpus .entry)) (now (mpidrs .entry)) index hash ⌝ }
 {
     let mpidr = mpidr_at(mpidrs, index);
     let slot = affinity::slot_of(hash, mpidr);
     row_of(
         nodes,
         pool,
+        p,
         above,
         leaf,
-        record_at(cpu_records, index),
+        record_at(cpus, index),
         mpidr,
         slot,
     )
@@ -88,35 +101,31 @@ pub fn write_rows(
     rows: &mut [u32],
     nodes: &[u32],
     pool: &[u8],
-    cpus: Cpus,
-    leaves: Leaves,
+    cpus: &[usize],
+    mpidrs: &[u64],
+    leaves: &[usize],
+    named: &[usize],
     mask: u64,
 ) -> bool
-    ensures room { λ r. ⌜ r ≡ hasRoom (length (now (rows .entry))) (leaves .count) ⌝ }
+    ensures room { λ r. ⌜ r ≡ hasRoom (length (now (rows .entry))) (length (now (leaves .entry))) ⌝ }
     ensures rows { λ _.
-        ⌜ now (rows .exit) ≡ written (source (now (nodes .entry)) (now (pool .entry)) cpus leaves mask) (now (rows .entry)) ⌝ }
+        ⌜ now (rows .exit) ≡ written (source (now (nodes .entry)) (now (pool .entry)) (now (cpus .entry)) (now (mpidrs .entry)) (now (leaves .entry)) (now (named .entry)) mask) (now (rows .entry)) ⌝ }
 {
-    let count = leaves.count;
+    let count = leaves.len();
     if rows.len() / ROW_WORDS < count {
         return false;
     }
     let hash = affinity::hash_of_mask(mask);
-    let mut above = above_of(nodes, pool, 0);
+    let mut parent: usize = 0;
+    let mut above = position_of(nodes, pool, 0);
     let mut k: usize = 0;
     while k < count {
-        let leaf = record_at(&leaves.records, k);
-        above = above_leaf(nodes, pool, leaf, above);
-        let index = record_at(&leaves.cpus, k);
-        let row = leaf_row(
-            nodes,
-            pool,
-            above,
-            leaf,
-            &cpus.records,
-            &cpus.mpidrs,
-            index,
-            hash,
-        );
+        let leaf = leaves[k];
+        let p = node_word(nodes, leaf, 0);
+        above = position_at(nodes, pool, p, parent, above);
+        parent = p;
+        let index = record_at(named, k);
+        let row = leaf_row(nodes, pool, p, above, leaf, cpus, mpidrs, index, hash);
         let start = ROW_WORDS * k;
         put_row(&mut rows[start..], row);
         k += 1;

@@ -15,6 +15,9 @@ enum-known-name c = search needs
 enum-told-3 : tie.Need-enum-told-3
 enum-told-3 c = search needs
 
+topology-name-requires : tie.Need-topology-name-requires
+topology-name-requires c κs = search needs
+
 topology-number-requires : tie.Need-topology-number-requires
 topology-number-requires c κs = search needs
 
@@ -31,7 +34,9 @@ returns-3 : tie.Need-returns-3
 returns-3 c = rw (c .before .name .given .1)
 
 returns-4 : tie.Need-returns-4
-returns-4 c = rw (c .topology-number .ensures, c .before .enum-told3 .given .1)
+returns-4 c =
+    let parent = c .before in
+    rw (parent .before .enum-told3 .given .1, ← parent .topology-name .ensures) (c .topology-number .ensures)
 
 returns-5 : tie.Need-returns-5
 returns-5 c = rw (c .enum-told4 .given .1)
@@ -44,6 +49,7 @@ core-of-spec =
     enum-told-2
     enum-known-name
     enum-told-3
+    topology-name-requires
     topology-number-requires
     enum-told-4
     returns

@@ -1,4 +1,4 @@
--- `leaf_row` reads the arrays of the cpu records and fills the row. Assumes nothing.
+-- `leaf_row` reads the cpu record and its MPIDR and fills the row. Assumes nothing.
 use borrow.Author.Needs.{needs}
 use Rattle.rows.proofs.write.leaf_row.Statement.{statement}
 use Rattle.rows.proofs.write.leaf_row.Tie as tie

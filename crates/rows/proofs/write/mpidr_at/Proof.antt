@@ -4,22 +4,16 @@ use lib.ListN.{List·getD-eq-default}
 use borrow.Author.Needs.{needs}
 use Rattle.rows.proofs.write.mpidr_at.Statement.{statement}
 use Rattle.rows.proofs.write.mpidr_at.Tie as tie
-use Rattle.rows.proofs.write.mpidr_at.Reads as reads
-use Rattle.rows.proofs.write.mpidr_at.Lts as lts
 
--- src/write.rt:51:16
 mul-result : tie.Need-mul-result
 mul-result c = search needs
 
--- src/write.rt:51:16
 shared-slice-read-result : tie.Need-shared-slice-read-result
 shared-slice-read-result c = search needs
 
--- src/write.rt:51:9
 returns : tie.Need-returns
 returns c = search needs
 
--- src/write.rt:47:1
 returns-2 : tie.Need-returns-2
 returns-2 c = sym (List·getD-eq-default (c .before .args .list .now) 0 (c .if1 .left))
 

@@ -6,78 +6,58 @@ use Rattle.rows.specs.Row.{rowWords}
 use borrow.Author.Needs.{needs}
 use Rattle.rows.proofs.write.put_row.Statement.{statement}
 use Rattle.rows.proofs.write.put_row.Tie as tie
-use Rattle.rows.proofs.write.put_row.Reads as reads
-use Rattle.rows.proofs.write.put_row.Lts as lts
 
--- src/write.rt:22:5
 slice-write-part : tie.Need-slice-write-part
 slice-write-part c = search needs
 
--- src/write.rt:23:5
 slice-write-part-2 : tie.Need-slice-write-part-2
 slice-write-part-2 c = simp length-set (omega arith)
 
--- src/write.rt:24:5
 slice-write-part-3 : tie.Need-slice-write-part-3
 slice-write-part-3 c = simp length-set (omega arith)
 
--- src/write.rt:25:5
 slice-write-part-4 : tie.Need-slice-write-part-4
 slice-write-part-4 c = simp length-set (omega arith)
 
--- src/write.rt:26:5
 slice-write-part-5 : tie.Need-slice-write-part-5
 slice-write-part-5 c = simp length-set (omega arith)
 
--- src/write.rt:27:15
 element-copy-out-part : tie.Need-element-copy-out-part
 element-copy-out-part c = search needs
 
--- src/write.rt:27:5
 slice-write-part-6 : tie.Need-slice-write-part-6
 slice-write-part-6 c = simp length-set (omega arith)
 
--- src/write.rt:28:15
 element-copy-out-part-2 : tie.Need-element-copy-out-part-2
 element-copy-out-part-2 c = search needs
 
--- src/write.rt:28:5
 slice-write-part-7 : tie.Need-slice-write-part-7
 slice-write-part-7 c = simp length-set (omega arith)
 
--- src/write.rt:29:15
 element-copy-out-part-3 : tie.Need-element-copy-out-part-3
 element-copy-out-part-3 c = search needs
 
--- src/write.rt:29:5
 slice-write-part-8 : tie.Need-slice-write-part-8
 slice-write-part-8 c = simp length-set (omega arith)
 
--- src/write.rt:30:15
 element-copy-out-part-4 : tie.Need-element-copy-out-part-4
 element-copy-out-part-4 c = search needs
 
--- src/write.rt:30:5
 slice-write-part-9 : tie.Need-slice-write-part-9
 slice-write-part-9 c = simp length-set (omega arith)
 
--- src/write.rt:31:5
 slice-write-part-10 : tie.Need-slice-write-part-10
 slice-write-part-10 c = simp length-set (omega arith)
 
--- src/write.rt:32:5
 slice-write-part-11 : tie.Need-slice-write-part-11
 slice-write-part-11 c = simp length-set (omega arith)
 
--- src/write.rt:33:5
 slice-write-part-12 : tie.Need-slice-write-part-12
 slice-write-part-12 c = simp length-set (omega arith)
 
--- src/write.rt:18:1
 same-length : tie.Need-same-length
 same-length c = simp length-set
 
--- src/write.rt:18:1
 returns : tie.Need-returns
 unfolding rowWords
 returns c =

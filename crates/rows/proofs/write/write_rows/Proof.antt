@@ -3,88 +3,98 @@ use mathlib.Core.Path.{_≡_, refl, _∙_}
 use mathlib.Core.List.{_++_}
 use Prim.Native.Nat.{_+_, _*_, _-_, _^_, _≤_, _<_}
 use native.Mathlib.Omega.{arith}
-use lib.ListN.{length, drop}
+use lib.ListN.{length, drop, getD}
 use borrow.Author.Needs.{needs}
 use borrow.Author.Tests.{le-leb, lt-leb}
 use borrow.Rule.Slice.PartMut.{same-len-mid}
+use Rattle.tables.proofs.CodePool.{word-zero}
+use Rattle.topology.specs.Path.{positionOf}
 use Rattle.rows.specs.Fits.{rowSize}
-use Rattle.rows.specs.Row.{aboveOf}
 use Rattle.rows.specs.Write.{Source, source, rowNumber, rowsBelow, written}
-use Rattle.rows.proofs.AboveLaws.{above-itself}
 use Rattle.rows.proofs.TurnLaws.{from-number, row-more}
 use Rattle.rows.proofs.write.write_rows.Statement.{statement}
 use Rattle.rows.proofs.write.write_rows.Tie as tie
 
 abbrev Inv-loop : tie.InvT-loop
-Inv-loop rows₀ nodes pool mask cpus leaves count hash above₀ k₀ rows above k =
+Inv-loop rows₀ nodes pool cpus mpidrs leaves named mask count hash parent₀ above₀ k₀ rows parent above k =
     (k ≤ count)
     × (rowSize * count ≤ length rows₀)
     × (length rows ≡ length rows₀)
-    × (rows ≡ rowsBelow (source nodes pool cpus leaves mask) k ++ drop (rowSize * k) rows₀)
-    × (above ≡ aboveOf nodes pool (above .parent))
+    × (rows ≡ rowsBelow (source nodes pool cpus mpidrs leaves named mask) k ++ drop (rowSize * k) rows₀)
+    × (above ≡ positionOf nodes pool parent)
 
 abbrev μ-loop : tie.MeasureT-loop
-μ-loop rows₀ nodes pool mask cpus leaves count hash above₀ k₀ rows above k = count - k
+μ-loop rows₀ nodes pool cpus mpidrs leaves named mask count hash parent₀ above₀ k₀ rows parent above k = count - k
 
 -- the start, and what the rows are made of
 abbrev begun : tie.At-loop Inv-loop μ-loop → tie.Start Inv-loop μ-loop
-begun c = c .before .before .before .before .before .before .before
+begun c = c .before .before .before .before .before .before .before .before .before .before .before
 
 abbrev from : tie.At-loop Inv-loop μ-loop → Source
-from c = let a = begun c .args in source (a .nodes .now) (a .pool .now) (a .t4) (a .t5) (a .mask)
+from c =
+    let a = begun c .args in
+    source (a .nodes .now) (a .pool .now) (a .cpus .now) (a .mpidrs .now) (a .leaves .now) (a .named .now) (a .mask)
 
--- the turn in which a row is made, and in it the reading of the leaf's parent
-abbrev parent : tie.After-leaf-row Inv-loop μ-loop → tie.After-above-leaf Inv-loop μ-loop
-parent c = c .before .before .before .before .before .before .before .before .before .before
-
+-- the turn in which a row is made
 abbrev turn : tie.After-leaf-row Inv-loop μ-loop → tie.In-loop Inv-loop μ-loop
-turn c = parent c .before .before .before .before .before
+turn c = c .before .before .before .before .before
 
 -- the row is that of leaf k
 made : (c : tie.After-leaf-row Inv-loop μ-loop) → let at = turn c .before in c .leaf-row .result ≡ rowNumber (from at) (at .loop .k)
 made c =
-    let index = c .before .before .before .before .before .before in
     let at = turn c .before in
-    c .leaf-row .ensures ∙ from-number (from at) (at .loop .k) (parent c .before .record-at .ensures) (index .record-at2 .ensures) (at .before .before .hash-of-mask .ensures)
+    from-number (from at) (at .loop .k) (c .leaf-row .ensures) (c .before .record-at .ensures) (at .before .before .hash-of-mask .ensures)
 
 -- it has its place in the buffer, and the buffer in memory
 place :
     (c : tie.In-loop Inv-loop μ-loop) →
     let at = c .before in
-    (at .loop .k < begun at .args .t5 .count) × (rowSize * at .loop .k + rowSize ≤ length (at .loop .rows)) × (4 * length (at .loop .rows) < 2 ^ 63)
+    let rows = at .loop .rows in
+    (at .loop .k < length (begun at .args .leaves .now)) × (rowSize * at .loop .k + rowSize ≤ length rows) × (4 * length rows < 2 ^ 63)
 place c =
     let at = c .before in
     let inv = at .loop .inv in
-    (c .loop-test .taken, omega (arith, inv .1, inv .2, c .loop-test .taken), omega (arith, begun at .good .0 .0, inv .2))
+    (c .loop-test .taken, omega (arith, inv .1, inv .2, c .loop-test .taken), omega (arith, begun at .good .0 .1, inv .2))
 
 returns : tie.Need-returns Inv-loop μ-loop
 unfolding written
 returns c =
-    let start = c .before .before .before .before .args in
-    let short = lt-leb (rowSize * start .t5 .count) (length (start .rows .now)) (omega arith) in
+    let a = c .before .before .before .before .before .before .before .before .args in
+    let short = lt-leb (rowSize * length (a .leaves .now)) (length (a .rows .now)) (omega arith) in
     (rw short, rw short)
 
 hash-of-mask-requires : tie.Need-hash-of-mask-requires Inv-loop μ-loop
 hash-of-mask-requires c κs = search needs
 
-above-of-requires : tie.Need-above-of-requires Inv-loop μ-loop
-above-of-requires c κs = search needs
+position-of-requires : tie.Need-position-of-requires Inv-loop μ-loop
+position-of-requires c κs = search needs
 
 loop-holds : tie.Need-loop-holds Inv-loop μ-loop
 unfolding rowsBelow
-loop-holds c = (omega arith, omega arith, refl, refl, above-itself _ _ _ (c .above-of .ensures))
+loop-holds c = (omega arith, omega arith, refl, refl, c .position-of .ensures)
+
+mul-leaf : tie.Need-mul-leaf Inv-loop μ-loop
+mul-leaf c = search needs
+
+shared-slice-read-leaf : tie.Need-shared-slice-read-leaf Inv-loop μ-loop
+shared-slice-read-leaf c = search needs
+
+node-word-requires : tie.Need-node-word-requires Inv-loop μ-loop
+node-word-requires c κs = search needs
+
+position-at-requires : tie.Need-position-at-requires Inv-loop μ-loop
+position-at-requires c κs = c .before .before .before .loop .inv .4
 
 record-at-requires : tie.Need-record-at-requires Inv-loop μ-loop
 record-at-requires c κs = search needs
 
-above-leaf-requires : tie.Need-above-leaf-requires Inv-loop μ-loop
-above-leaf-requires c κs = c .before .before .before .before .before .loop .inv .4
-
-record-at-requires-2 : tie.Need-record-at-requires-2 Inv-loop μ-loop
-record-at-requires-2 c κs = search needs
-
 leaf-row-requires : tie.Need-leaf-row-requires Inv-loop μ-loop
-leaf-row-requires c κs = c .before .before .before .before .before .before .before .before .before .above-leaf .ensures
+leaf-row-requires c κs =
+    let position = c .before in
+    let word = position .before in
+    let at = word .before .before .before in
+    let a = begun at .args in
+    (word .node-word .ensures ∙ word-zero (a .nodes .now) (3 * getD (a .leaves .now) (at .loop .k) 0), position .position-at .ensures)
 
 mul-start : tie.Need-mul-start Inv-loop μ-loop
 mul-start c = search (needs, place (turn c))
@@ -121,7 +131,7 @@ loop-again c =
       inv .1,
       same-len-mid (rowSize * at .loop .k) (length xs - rowSize * at .loop .k) xs (call .last .0) (call .kept .0) ∙ inv .2,
       row-more (from at) (begun at .args .rows .now) xs (call .last .0) (at .loop .k) (inv .3) (made row) (call .ensures),
-      above-itself _ _ _ (parent row .above-leaf .ensures),
+      row .before .before .position-at .ensures,
     )
 
 same-length : tie.Need-same-length Inv-loop μ-loop
@@ -132,8 +142,8 @@ unfolding written
 returns-2 c =
     let at = c .before in
     let a = begun at .args in
-    let whole : at .loop .k ≡ a .t5 .count = omega arith in
-    let room = le-leb (rowSize * a .t5 .count) (length (a .rows .now)) (at .loop .inv .1) in
+    let whole : at .loop .k ≡ length (a .leaves .now) = omega arith in
+    let room = le-leb (rowSize * length (a .leaves .now)) (length (a .rows .now)) (at .loop .inv .1) in
     (rw room, rw room (rw whole at (at .loop .inv .3)))
 
 pub write-rows-spec : {M : Type 1} → statement M
@@ -144,11 +154,13 @@ write-rows-spec =
     μ-loop
     returns
     hash-of-mask-requires
-    above-of-requires
+    position-of-requires
     loop-holds
+    mul-leaf
+    shared-slice-read-leaf
+    node-word-requires
+    position-at-requires
     record-at-requires
-    above-leaf-requires
-    record-at-requires-2
     leaf-row-requires
     mul-start
     mul-put-row

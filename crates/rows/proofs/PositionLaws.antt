@@ -1,0 +1,39 @@
+-- A record that is neither a socket nor a cluster stands where its parent stands. Assumes nothing.
+use mathlib.Core.Path.{_≡_, refl, _∙_}
+use mathlib.Core.Bool.{true}
+use mathlib.Core.List.{List}
+use Prim.Native.Nat.{ℕ}
+use native.Mathlib.Omega.{arith}
+use Rattle.names.specs.declared.TopologyName.{TopologyName}
+use Rattle.names.specs.declared.TopologyName.the-variants.{Socket, Cluster, Core, Thread, Other}
+use Rattle.tables.specs.Board.{parentWord}
+use Rattle.tables.specs.declared.Parent.{Parent}
+use Rattle.tables.specs.declared.Parent.the-variants.{Is, Top}
+use Rattle.tables.specs.Tree.{parentOf}
+use Rattle.tables.proofs.TreeLaws.{parent-is}
+use Rattle.topology.specs.declared.Position.{Position}
+use Rattle.topology.specs.Path.{topologyName, positionStep, positionOf}
+use Rattle.topology.proofs.CodeLaws.{position-is}
+use Rattle.rows.specs.Row.{keepsPosition}
+
+step-kept : (p : ℕ) (name : TopologyName) (above : Position) → keepsPosition (Is p) name ≡ true → above ≡ positionStep name above
+step-kept p (Socket n) above e = let z : _≡_ {A = ℕ} 0 1 = cc in absurd (omega arith)
+step-kept p (Cluster n) above e = let z : _≡_ {A = ℕ} 0 1 = cc in absurd (omega arith)
+step-kept p (Core n) above e = refl
+step-kept p (Thread n) above e = refl
+step-kept p Other above e = refl
+
+pub position-kept :
+    (nodes pool : List ℕ) (i : ℕ) {parent : Parent} {name : TopologyName} {above : Position} →
+    parent ≡ parentOf nodes i →
+    name ≡ topologyName nodes pool i →
+    above ≡ positionOf nodes pool (parentWord nodes i) →
+    keepsPosition parent name ≡ true →
+    above ≡ positionOf nodes pool i
+position-kept nodes pool i e n a k = a ∙ go (parentOf nodes i) refl (rw (e, n) at k)
+  where
+    go : (p : Parent) → parentOf nodes i ≡ p → keepsPosition p (topologyName nodes pool i) ≡ true → positionOf nodes pool (parentWord nodes i) ≡ positionOf nodes pool i
+    go (Is p) h k =
+        let step = step-kept p (topologyName nodes pool i) (positionOf nodes pool p) k in
+        rw (parent-is nodes i p h .1) (step ∙ position-is nodes pool i p h)
+    go Top h k = let z : _≡_ {A = ℕ} 0 1 = cc in absurd (omega arith)
