@@ -1,6 +1,7 @@
 -- `sunderwath_check_tables` meets its contract. Assumes nothing.
 use mathlib.Core.Path.{ap}
 use native.Mathlib.Omega.{arith}
+use lib.ListN.{length}
 use borrow.Author.Tests.{lt-ltb, le-ltb}
 use Rattle.tables.specs.Board.{board}
 use Rattle.tables.proofs.RuleLaws.{table-place}
@@ -15,7 +16,7 @@ use Rattle.tables.proofs.table_fault.Reads as table-fault-reads
 
 -- src/check.rt:31:9
 returns : tie.Need-returns
-returns c = let short = lt-ltb _ _ (c .if1 .taken) in (rw short, rw short)
+returns c = let short = lt-ltb (length (c .before .before .before .before .before .args .answer .now)) 10 (omega arith) in (rw short, rw short)
 
 -- src/check.rt:33:9
 table-fault-requires : tie.Need-table-fault-requires

@@ -1,5 +1,6 @@
 use mathlib.Core.Path.{refl, sym, ap, _∙_}
 use native.Mathlib.Omega.{arith}
+use lib.ListN.{length}
 use borrow.Author.Tests.{lt-ltb, le-ltb}
 use Rattle.affinity.proofs.SlotClaims.{hash-place-le, slot-place-le}
 use borrow.Author.Needs.{needs}
@@ -13,7 +14,7 @@ use Rattle.exports.proofs.answer.put_answer.Reads as put-answer-reads
 
 -- src/lib.rt:65:9
 returns : tie.Need-returns
-returns c = let short = lt-ltb _ _ (c .if1 .taken) in (rw short, rw short)
+returns c = let short = lt-ltb (length (c .before .before .before .args .answer .now)) 10 (omega arith) in (rw short, rw short)
 
 -- src/lib.rt:67:9
 list-slot-requires : tie.Need-list-slot-requires

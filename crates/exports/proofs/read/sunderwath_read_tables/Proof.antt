@@ -16,7 +16,7 @@ use Rattle.exports.proofs.answer.put_answer.Reads as put-answer-reads
 
 -- src/read.rt:37:9
 returns : tie.Need-returns
-returns c = let short = lt-ltb _ _ (c .if1 .taken) in (rw short, (rw short, rw short))
+returns c = let short = lt-ltb (length (c .before .before .before .before .before .before .args .answer .now)) 10 (omega arith) in (rw short, (rw short, rw short))
 
 -- src/read.rt:39:9
 read-tables-requires : tie.Need-read-tables-requires
