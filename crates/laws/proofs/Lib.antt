@@ -25,3 +25,4 @@ pub mod PadLaws
 pub mod PadMapLaws
 pub mod GatherLaws
 pub mod PassLaws
+pub mod ListedLaws
