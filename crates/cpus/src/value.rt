@@ -1,4 +1,4 @@
-// A property's value as cells or as given bytes.
+// A property's value as cells.
 use crate::Cell;
 use crate::Mpidr;
 use affinity::is_affine;
@@ -6,11 +6,10 @@ use tables::Lookup;
 use tables::cell_at;
 use tables::find_property;
 use tables::prop_word;
-use tables::value_is;
 ghost use mathlib.Core.Path.{_≡_};
 ghost use Prim.Native.Nat.{_+_, _*_, _≤_};
 ghost use lib.ListN.{length};
-ghost use Rattle.cpus.specs.Cell.{valueSized, cellOf, hasValue, cellsAt, affineOnly, mpidrOf};
+ghost use Rattle.cpus.specs.Cell.{valueSized, cellIn, cellOf, cellsAt, affineOnly, mpidrIn};
 
 // Whether property k's value lies inside the pool and has so many cells.
 fn has_cells(props: &[u32], pool: &[u8], cells: usize, k: usize) -> bool
@@ -30,11 +29,10 @@ fn has_cells(props: &[u32], pool: &[u8], cells: usize, k: usize) -> bool
     len <= pool.len() - offset
 }
 
-// The cell that is the value of a record's property `key`.
-pub fn cell_of(props: &[u32], pool: &[u8], node: usize, key: &[u8]) -> Cell
-    ensures { λ r. ⌜ r ≡ cellOf (now (props .entry)) (now (pool .entry)) node (now (key .entry)) ⌝ }
+// The cell that is the value of a property, if it was found and has four bytes.
+pub fn cell_in(props: &[u32], pool: &[u8], found: Lookup) -> Cell
+    ensures { λ r. ⌜ r ≡ cellIn (now (props .entry)) (now (pool .entry)) found ⌝ }
 {
-    let found = find_property(props, pool, node, key);
     let Lookup::At(k) = found else {
         return Cell::Not;
     };
@@ -44,15 +42,11 @@ pub fn cell_of(props: &[u32], pool: &[u8], node: usize, key: &[u8]) -> Cell
     Cell::Not
 }
 
-// Whether a record has a property `key` with given bytes.
-pub fn has_value(props: &[u32], pool: &[u8], node: usize, key: &[u8], bytes: &[u8]) -> bool
-    ensures { λ r. ⌜ r ≡ hasValue (now (props .entry)) (now (pool .entry)) node (now (key .entry)) (now (bytes .entry)) ⌝ }
+// The cell that is the value of a record's property `key`.
+pub fn cell_of(props: &[u32], pool: &[u8], node: usize, key: &[u8]) -> Cell
+    ensures { λ r. ⌜ r ≡ cellOf (now (props .entry)) (now (pool .entry)) node (now (key .entry)) ⌝ }
 {
-    let found = find_property(props, pool, node, key);
-    let Lookup::At(k) = found else {
-        return false;
-    };
-    value_is(props, pool, k, bytes)
+    cell_in(props, pool, find_property(props, pool, node, key))
 }
 
 // The MPIDR of the cells from `at` on: the lower cell alone, or the upper and the lower.
@@ -77,11 +71,10 @@ fn affine_only(mpidr: u64) -> Mpidr
     Mpidr::Not
 }
 
-// A record's `reg` as an MPIDR, if it has four bytes for each address cell and affinity bits alone.
-pub fn mpidr_of(props: &[u32], pool: &[u8], cells: usize, node: usize) -> Mpidr
-    ensures { λ r. ⌜ r ≡ mpidrOf (now (props .entry)) (now (pool .entry)) cells node ⌝ }
+// An MPIDR that is the value of a property, if it was found, has four bytes for each address cell and affinity bits alone.
+pub fn mpidr_in(props: &[u32], pool: &[u8], cells: usize, found: Lookup) -> Mpidr
+    ensures { λ r. ⌜ r ≡ mpidrIn (now (props .entry)) (now (pool .entry)) cells found ⌝ }
 {
-    let found = find_property(props, pool, node, b"reg");
     let Lookup::At(k) = found else {
         return Mpidr::Not;
     };

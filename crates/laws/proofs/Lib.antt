@@ -24,3 +24,4 @@ pub mod PadLaws
 pub mod PadMapLaws
 pub mod GatherLaws
 pub mod PassLaws
+pub mod ListedLaws

@@ -1,16 +1,9 @@
--- `mpidr_of` meets its contract: each answer is the definition's at what the search found. Assumes nothing.
-use mathlib.Core.Path.{sym, _∙_}
-use Rattle.cpus.specs.Cell.{mpidrOf}
+-- `mpidr_in` meets its contract: each answer is the definition's at what was found. Assumes nothing.
 use Rattle.cpus.proofs.CodeLaws.{sized-inside}
+use mathlib.Core.Path.{sym, _∙_}
 use borrow.Author.Needs.{needs}
-use Rattle.cpus.proofs.value.mpidr_of.Statement.{statement}
-use Rattle.cpus.proofs.value.mpidr_of.Tie as tie
-
-slice-aggregate-find-property : tie.Need-slice-aggregate-find-property
-slice-aggregate-find-property c = search needs
-
-find-property-requires : tie.Need-find-property-requires
-find-property-requires c κs = search needs
+use Rattle.cpus.proofs.value.mpidr_in.Statement.{statement}
+use Rattle.cpus.proofs.value.mpidr_in.Tie as tie
 
 enum-known-found : tie.Need-enum-known-found
 enum-known-found c = search needs
@@ -19,8 +12,7 @@ enum-told : tie.Need-enum-told
 enum-told c = search needs
 
 returns : tie.Need-returns
-unfolding mpidrOf
-returns c = rw (sym (c .before .before .find-property .ensures) ∙ c .enum-told .given .1)
+returns c = search needs
 
 has-cells-requires : tie.Need-has-cells-requires
 has-cells-requires c κs = search needs
@@ -31,36 +23,29 @@ prop-word-requires c κs = search needs
 cells-at-requires : tie.Need-cells-at-requires
 cells-at-requires c κs =
     let test = c .before in
-    let a = test .before .before .before .before .before .before .before .before .before .args in
+    let a = test .before .before .before .before .before .before .before .args in
     rw (c .prop-word .ensures) (sized-inside (a .props .now) (a .pool .now) _ (a .cells) (sym (test .before .has-cells .ensures) ∙ test .if1 .taken))
 
 affine-only-requires : tie.Need-affine-only-requires
 affine-only-requires c κs = search needs
 
 returns-2 : tie.Need-returns-2
-unfolding mpidrOf
 returns-2 c =
     let test = c .before .before .before in
-    let known = test .before .before in
     rw (
-      sym (known .before .before .before .find-property .ensures) ∙ known .before .found .given .1,
+      test .before .before .before .found .given .1,
       sym (test .before .has-cells .ensures) ∙ test .if1 .taken,
       ← c .before .before .prop-word .ensures,
       ← c .before .cells-at .ensures,
     ) (c .affine-only .ensures)
 
 returns-3 : tie.Need-returns-3
-unfolding mpidrOf
-returns-3 c =
-    let known = c .before .before in
-    rw (sym (known .before .before .before .find-property .ensures) ∙ known .before .found .given .1, sym (c .before .has-cells .ensures) ∙ c .if1 .left)
+returns-3 c = rw (c .before .before .before .found .given .1, sym (c .before .has-cells .ensures) ∙ c .if1 .left)
 
-pub mpidr-of-spec : {M : Type 1} → statement M
-mpidr-of-spec =
+pub mpidr-in-spec : {M : Type 1} → statement M
+mpidr-in-spec =
     tie.close
     (tie.spec
-    slice-aggregate-find-property
-    find-property-requires
     enum-known-found
     enum-told
     returns
