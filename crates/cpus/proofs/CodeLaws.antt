@@ -1,19 +1,23 @@
 -- What the proofs of the code cite of the definitions. Assumes nothing.
 use mathlib.Core.Path.{_≡_, refl, sym, ap, ap₂, _∙_}
 use mathlib.Core.Bool.{Bool, true, false, cond}
-use mathlib.Core.List.{List, map}
+use mathlib.Core.Logic.{⊎-elim}
+use mathlib.Core.List.{List, [], _∷_, _++_, map}
 use Prim.Native.Nat.{ℕ, _+_, _*_, _≤_, _<_}
 use native.Mathlib.Omega.{arith}
 use lib.Dec.{leb, eqb}
 use lib.ListN.{length, take, set, replicate}
+use lib.Seq.{set-out}
 use borrow.Author.Tests.{eq-eqb, ne-eqb, leb-true}
 use Rattle.laws.specs.Fault.{clear, firstFault}
 use Rattle.laws.specs.Search.{countBelow, listBelow, isAmong}
 use Rattle.laws.specs.Pad.{padded}
+use Rattle.laws.specs.Listed.{over}
 use Rattle.laws.proofs.FaultLaws.{clear-more, at-fault}
-use Rattle.laws.proofs.SearchLaws.{count-yes, count-no, list-yes, list-no, list-length}
+use Rattle.laws.proofs.SearchLaws.{lt-or-le, count-yes, count-no, list-yes, list-no, list-length}
 use Rattle.laws.proofs.GatherLaws.{gathered-seen, gathered-length, gathered-more, gathered-front}
 use Rattle.laws.proofs.PadLaws.{pad-none, pad-length, pad-push}
+use Rattle.laws.proofs.ListedLaws.{over-length, over-push, over-full}
 use Rattle.laws.proofs.TestLaws.{both-true}
 use Rattle.tables.specs.Board.{valueOffset, valueLength}
 use Rattle.cpus.specs.declared.Reading.{Reading}
@@ -107,3 +111,22 @@ module _ (p : ℕ → Bool) (r : ℕ → Reading) (rule : ℕ) where
 
   pub pass-lengths : {i count : ℕ} {records values : List ℕ} → Pass i count records values → (length records ≡ 256) × (length values ≡ 256)
   pass-lengths h = (ap length (h .listed) ∙ pad-length 256 _, ap length (h .held) ∙ pad-length 256 _)
+
+-- the element after a list over a buffer is set, if there is room for it
+pub over-add : (l before : List ℕ) (x k : ℕ) → length l ≡ k → set (over l before) k x ≡ over (l ++ (x ∷ [])) before
+over-add l before x k long =
+    ⊎-elim
+    (over-push l before x k long)
+    (λ full. set-out (over l before) k x (rw (over-length l before) full) ∙ sym (over-full l before x (rw long full)))
+    (lt-or-le k (length before))
+
+-- the places that pass a test, listed over a buffer: one place more
+module _ (p : ℕ → Bool) (i : ℕ) {count : ℕ} {list : List ℕ} (before : List ℕ) (counted : count ≡ countBelow p i) (listed : list ≡ over (listBelow p i) before) where
+  pub listed-yes : p i ≡ true → set list count i ≡ over (listBelow p (i + 1)) before
+  listed-yes e =
+      ap (λ (l : List ℕ). set l count i) listed
+      ∙ over-add (listBelow p i) before i count (list-length p i ∙ sym counted)
+      ∙ ap (λ (l : List ℕ). over l before) (sym (list-yes p i e))
+
+  pub listed-no : p i ≡ false → list ≡ over (listBelow p (i + 1)) before
+  listed-no e = listed ∙ ap (λ (l : List ℕ). over l before) (sym (list-no p i e))

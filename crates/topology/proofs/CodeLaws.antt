@@ -18,6 +18,7 @@ use Rattle.tables.specs.declared.Parent.{Parent}
 use Rattle.tables.specs.declared.Parent.the-variants.{Is, Top}
 use Rattle.tables.specs.Tree.{parentOf, climb, isBelow, Child, Ancestor}
 use Rattle.tables.proofs.TreeLaws.{parent-is, parent-top, climb-parent, climb-none, below-ancestor}
+use Rattle.cpus.specs.declared.Cell.{Cell}
 use Rattle.cpus.specs.Check.{isChild}
 use Rattle.topology.specs.declared.ClusterPath.{ClusterPath}
 use Rattle.topology.specs.declared.Position.{Position}
@@ -167,20 +168,20 @@ named-fault nodes pool map i name ne e =
     (ap (λ (q : ℕ). orNumber (kindFault nodes pool map q name) (orNumber (numberFault nodes q i name) (shapeFault nodes pool q i name))) e)
 
 -- rules 19 to 24 at a record below the map with a given name
-module _ (nodes props pool : List ℕ) (map : ℕ) (phandles : List ℕ) (i : ℕ) {name : TopologyName} {v : ℕ} (n : name ≡ topologyName nodes pool i) (e : v ≡ mapRecordFault nodes pool map i name) where
+module _ (nodes : List ℕ) (cells : ℕ → Cell) (pool : List ℕ) (map : ℕ) (phandles : List ℕ) (i : ℕ) {name : TopologyName} {v : ℕ} (n : name ≡ topologyName nodes pool i) (e : v ≡ mapRecordFault nodes pool map i name) where
   fault : v ≡ mapRecordFault nodes pool map i (topologyName nodes pool i)
   fault = e ∙ ap (mapRecordFault nodes pool map i) n
 
-  pub shape-told : (v ≡ 0 → ⊥) → broken v (length phandles) ≡ mapRecordCheck nodes props pool map phandles i
+  pub shape-told : (v ≡ 0 → ⊥) → broken v (length phandles) ≡ mapRecordCheck nodes cells pool map phandles i
   unfolding mapRecordCheck
   shape-told ne = rw (← fault, ne-eqb v 0 ne)
 
-  leaf-or-not : {b : Bool} → v ≡ 0 → b ≡ isLeafName nodes i name → cond b (leafCheck (length phandles) (leafCpu props pool phandles i)) (broken 0 (length phandles)) ≡ mapRecordCheck nodes props pool map phandles i
+  leaf-or-not : {b : Bool} → v ≡ 0 → b ≡ isLeafName nodes i name → cond b (leafCheck (length phandles) (leafCpu cells phandles i)) (broken 0 (length phandles)) ≡ mapRecordCheck nodes cells pool map phandles i
   unfolding mapRecordCheck
-  leaf-or-not z l = rw (eq-eqb _ _ (sym fault ∙ z)) (ap (λ (b : Bool). cond b (leafCheck (length phandles) (leafCpu props pool phandles i)) (broken 0 (length phandles))) (l ∙ ap (isLeafName nodes i) n))
+  leaf-or-not z l = rw (eq-eqb _ _ (sym fault ∙ z)) (ap (λ (b : Bool). cond b (leafCheck (length phandles) (leafCpu cells phandles i)) (broken 0 (length phandles))) (l ∙ ap (isLeafName nodes i) n))
 
-  pub leaf-told : {b : Bool} → v ≡ 0 → b ≡ isLeafName nodes i name → b ≡ true → leafCheck (length phandles) (leafCpu props pool phandles i) ≡ mapRecordCheck nodes props pool map phandles i
+  pub leaf-told : {b : Bool} → v ≡ 0 → b ≡ isLeafName nodes i name → b ≡ true → leafCheck (length phandles) (leafCpu cells phandles i) ≡ mapRecordCheck nodes cells pool map phandles i
   leaf-told z l t = leaf-or-not z (sym t ∙ l)
 
-  pub inner-told : {b : Bool} → v ≡ 0 → b ≡ isLeafName nodes i name → b ≡ false → broken 0 (length phandles) ≡ mapRecordCheck nodes props pool map phandles i
+  pub inner-told : {b : Bool} → v ≡ 0 → b ≡ isLeafName nodes i name → b ≡ false → broken 0 (length phandles) ≡ mapRecordCheck nodes cells pool map phandles i
   inner-told z l t = leaf-or-not z (sym t ∙ l)

@@ -22,5 +22,5 @@ pub mod TreeLeast
 pub mod TreeTells
 pub mod TreeGives
 pub mod CodeLaws
-pub mod PartLaws
+pub mod GatherLaws
 pub mod ScanLaws

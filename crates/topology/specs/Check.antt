@@ -82,8 +82,13 @@ abbrev pub indexOf : List ℕ → Cell → ℕ
 indexOf phandles (cell.Is w) = placeIn phandles w
 indexOf phandles cell.Not = length phandles
 
-unfoldable pub leafCpu : List ℕ → List ℕ → List ℕ → ℕ → ℕ
-leafCpu props pool phandles i = indexOf phandles (cellOf props pool i cpuKey)
+-- the same of leaf i, by the cells of the records' `cpu`
+unfoldable pub leafCpu : (ℕ → Cell) → List ℕ → ℕ → ℕ
+leafCpu cells phandles i = indexOf phandles (cells i)
+
+-- the cell of each record's `cpu`, looked up
+abbrev pub cpuCells : List ℕ → List ℕ → ℕ → Cell
+cpuCells props pool i = cellOf props pool i cpuKey
 
 -- rule 23, and 22 of a cluster under parent p
 abbrev pub groupFault : List ℕ → ℕ → ℕ
@@ -123,16 +128,16 @@ mapRecordFault nodes pool map i name =
     (orNumber (numberFault nodes (parentWord nodes i) i name) (shapeFault nodes pool (parentWord nodes i) i name)))
 
 -- what record i, below the map, breaks of 19 to 24, and the cpu that it names where it is a leaf
-unfoldable pub mapRecordCheck : List ℕ → List ℕ → List ℕ → ℕ → List ℕ → ℕ → RecordCheck
-mapRecordCheck nodes props pool map phandles i =
+unfoldable pub mapRecordCheck : List ℕ → (ℕ → Cell) → List ℕ → ℕ → List ℕ → ℕ → RecordCheck
+mapRecordCheck nodes cells pool map phandles i =
     cond (eqb (mapRecordFault nodes pool map i (topologyName nodes pool i)) 0)
-    (cond (isLeafName nodes i (topologyName nodes pool i)) (leafCheck (length phandles) (leafCpu props pool phandles i)) (broken 0 (length phandles)))
+    (cond (isLeafName nodes i (topologyName nodes pool i)) (leafCheck (length phandles) (leafCpu cells phandles i)) (broken 0 (length phandles)))
     (broken (mapRecordFault nodes pool map i (topologyName nodes pool i)) (length phandles))
 
 -- what record i breaks of 18 to 24, and the cpu that it names where it is a leaf
-unfoldable pub recordCheck : List ℕ → List ℕ → List ℕ → ℕ → List ℕ → ℕ → RecordCheck
-recordCheck nodes props pool map phandles i =
+unfoldable pub recordCheck : List ℕ → (ℕ → Cell) → List ℕ → ℕ → List ℕ → ℕ → RecordCheck
+recordCheck nodes cells pool map phandles i =
     cond (eqb i 0) (broken 0 (length phandles))
     (cond (eqb i map) (broken (groupFault nodes i) (length phandles))
-    (cond (isBelow nodes i map) (mapRecordCheck nodes props pool map phandles i)
+    (cond (isBelow nodes i map) (mapRecordCheck nodes cells pool map phandles i)
     (broken (cond (eqb (kindNumber (topologyName nodes pool i)) 0) 0 18) (length phandles))))

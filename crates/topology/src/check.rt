@@ -21,7 +21,7 @@ ghost use Prim.Native.Nat.{_<_};
 ghost use lib.Dec.{eqb};
 ghost use Rattle.tables.specs.Board.{nodeCount, parentWord};
 ghost use Rattle.topology.specs.Path.{topologyName};
-ghost use Rattle.topology.specs.Check.{kindNumber, mapRecordFault, mapRecordCheck, recordCheck};
+ghost use Rattle.topology.specs.Check.{kindNumber, cpuCells, mapRecordFault, mapRecordCheck, recordCheck};
 
 // The smallest of 19 to 23 that record i, below the map and so named, breaks; or 0.
 fn map_record_fault(nodes: &[u32], pool: &[u8], map: usize, i: usize, name: TopologyName) -> u32
@@ -54,7 +54,7 @@ fn map_record_check(
     name: TopologyName,
 ) -> RecordCheck
     requires { ⌜ (i < nodeCount (now nodes)) × (parentWord (now nodes) i < i) × (name ≡ topologyName (now nodes) (now pool) i) ⌝ }
-    ensures { λ r. ⌜ r ≡ mapRecordCheck (now (nodes .entry)) (now (props .entry)) (now (pool .entry)) map (now (phandles .entry)) i ⌝ }
+    ensures { λ r. ⌜ r ≡ mapRecordCheck (now (nodes .entry)) (cpuCells (now (props .entry)) (now (pool .entry))) (now (pool .entry)) map (now (phandles .entry)) i ⌝ }
 {
     let number = map_record_fault(nodes, pool, map, i, name);
     if number != 0 {
@@ -85,7 +85,7 @@ pub fn record_check(
     phandles: &[u64],
     i: usize,
 ) -> RecordCheck
-    ensures { λ r. ⌜ r ≡ recordCheck (now (nodes .entry)) (now (props .entry)) (now (pool .entry)) map (now (phandles .entry)) i ⌝ }
+    ensures { λ r. ⌜ r ≡ recordCheck (now (nodes .entry)) (cpuCells (now (props .entry)) (now (pool .entry))) (now (pool .entry)) map (now (phandles .entry)) i ⌝ }
 {
     if i == 0 {
         return no_leaf(0, phandles.len());

@@ -10,7 +10,7 @@ ghost use mathlib.Core.Path.{_≡_};
 ghost use lib.Dec.{eqb};
 ghost use lib.ListN.{length, getD};
 ghost use Rattle.laws.specs.Search.{lowest};
-ghost use Rattle.topology.specs.Check.{indexOf, leafCpu, broken, leafCheck, isLeafName};
+ghost use Rattle.topology.specs.Check.{indexOf, leafCpu, cpuCells, broken, leafCheck, isLeafName};
 
 // Whether the name of record i is a leaf's: a thread's, or that of a core without children.
 pub fn is_leaf_name(nodes: &[u32], i: usize, name: TopologyName) -> bool
@@ -36,7 +36,7 @@ fn index_of(phandles: &[u64], cell: Cell) -> usize
 
 // The index of the phandle that record i's `cpu` holds, or the number of phandles where it holds none.
 pub fn leaf_cpu(props: &[u32], pool: &[u8], phandles: &[u64], i: usize) -> usize
-    ensures { λ r. ⌜ r ≡ leafCpu (now (props .entry)) (now (pool .entry)) (now (phandles .entry)) i ⌝ }
+    ensures { λ r. ⌜ r ≡ leafCpu (cpuCells (now (props .entry)) (now (pool .entry))) (now (phandles .entry)) i ⌝ }
 {
     index_of(phandles, cell_of(props, pool, i, b"cpu"))
 }
