@@ -1,0 +1,3 @@
+-- What the contracts of `keys` cite.
+pub mod Key
+pub mod Index
