@@ -12,6 +12,7 @@ pub use node::is_child;
 pub use node::is_cpu;
 pub use scan::read_cpus;
 pub use scan::read_phandles;
+pub use value::cell_in;
 pub use value::cell_of;
 pub use value::has_value;
 pub use value::mpidr_of;

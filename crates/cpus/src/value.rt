@@ -10,7 +10,7 @@ use tables::value_is;
 ghost use mathlib.Core.Path.{_≡_};
 ghost use Prim.Native.Nat.{_+_, _*_, _≤_};
 ghost use lib.ListN.{length};
-ghost use Rattle.cpus.specs.Cell.{valueSized, cellOf, hasValue, cellsAt, affineOnly, mpidrOf};
+ghost use Rattle.cpus.specs.Cell.{valueSized, cellIn, cellOf, hasValue, cellsAt, affineOnly, mpidrIn, mpidrOf};
 
 // Whether property k's value lies inside the pool and has so many cells.
 fn has_cells(props: &[u32], pool: &[u8], cells: usize, k: usize) -> bool
@@ -30,11 +30,10 @@ fn has_cells(props: &[u32], pool: &[u8], cells: usize, k: usize) -> bool
     len <= pool.len() - offset
 }
 
-// The cell that is the value of a record's property `key`.
-pub fn cell_of(props: &[u32], pool: &[u8], node: usize, key: &[u8]) -> Cell
-    ensures { λ r. ⌜ r ≡ cellOf (now (props .entry)) (now (pool .entry)) node (now (key .entry)) ⌝ }
+// The cell that is the value of a property, if it was found and has four bytes.
+pub fn cell_in(props: &[u32], pool: &[u8], found: Lookup) -> Cell
+    ensures { λ r. ⌜ r ≡ cellIn (now (props .entry)) (now (pool .entry)) found ⌝ }
 {
-    let found = find_property(props, pool, node, key);
     let Lookup::At(k) = found else {
         return Cell::Not;
     };
@@ -42,6 +41,13 @@ pub fn cell_of(props: &[u32], pool: &[u8], node: usize, key: &[u8]) -> Cell
         return Cell::Is(cell_at(pool, prop_word(props, k, 3)));
     }
     Cell::Not
+}
+
+// The cell that is the value of a record's property `key`.
+pub fn cell_of(props: &[u32], pool: &[u8], node: usize, key: &[u8]) -> Cell
+    ensures { λ r. ⌜ r ≡ cellOf (now (props .entry)) (now (pool .entry)) node (now (key .entry)) ⌝ }
+{
+    cell_in(props, pool, find_property(props, pool, node, key))
 }
 
 // Whether a record has a property `key` with given bytes.
@@ -77,11 +83,10 @@ fn affine_only(mpidr: u64) -> Mpidr
     Mpidr::Not
 }
 
-// A record's `reg` as an MPIDR, if it has four bytes for each address cell and affinity bits alone.
-pub fn mpidr_of(props: &[u32], pool: &[u8], cells: usize, node: usize) -> Mpidr
-    ensures { λ r. ⌜ r ≡ mpidrOf (now (props .entry)) (now (pool .entry)) cells node ⌝ }
+// An MPIDR that is the value of a property, if it was found, has four bytes for each address cell and affinity bits alone.
+fn mpidr_in(props: &[u32], pool: &[u8], cells: usize, found: Lookup) -> Mpidr
+    ensures { λ r. ⌜ r ≡ mpidrIn (now (props .entry)) (now (pool .entry)) cells found ⌝ }
 {
-    let found = find_property(props, pool, node, b"reg");
     let Lookup::At(k) = found else {
         return Mpidr::Not;
     };
@@ -89,4 +94,11 @@ pub fn mpidr_of(props: &[u32], pool: &[u8], cells: usize, node: usize) -> Mpidr
         return affine_only(cells_at(pool, cells, prop_word(props, k, 3)));
     }
     Mpidr::Not
+}
+
+// A record's `reg` as an MPIDR, if it has four bytes for each address cell and affinity bits alone.
+pub fn mpidr_of(props: &[u32], pool: &[u8], cells: usize, node: usize) -> Mpidr
+    ensures { λ r. ⌜ r ≡ mpidrOf (now (props .entry)) (now (pool .entry)) cells node ⌝ }
+{
+    mpidr_in(props, pool, cells, find_property(props, pool, node, b"reg"))
 }

@@ -1,0 +1,57 @@
+-- `mpidr_in` meets its contract: each answer is the definition's at what was found. Assumes nothing.
+use Rattle.cpus.proofs.CodeLaws.{sized-inside}
+use mathlib.Core.Path.{sym, _∙_}
+use borrow.Author.Needs.{needs}
+use Rattle.cpus.proofs.value.mpidr_in.Statement.{statement}
+use Rattle.cpus.proofs.value.mpidr_in.Tie as tie
+
+enum-known-found : tie.Need-enum-known-found
+enum-known-found c = search needs
+
+enum-told : tie.Need-enum-told
+enum-told c = search needs
+
+returns : tie.Need-returns
+returns c = search needs
+
+has-cells-requires : tie.Need-has-cells-requires
+has-cells-requires c κs = search needs
+
+prop-word-requires : tie.Need-prop-word-requires
+prop-word-requires c κs = search needs
+
+cells-at-requires : tie.Need-cells-at-requires
+cells-at-requires c κs =
+    let test = c .before in
+    let a = test .before .before .before .before .before .before .before .args in
+    rw (c .prop-word .ensures) (sized-inside (a .props .now) (a .pool .now) _ (a .cells) (sym (test .before .has-cells .ensures) ∙ test .if1 .taken))
+
+affine-only-requires : tie.Need-affine-only-requires
+affine-only-requires c κs = search needs
+
+returns-2 : tie.Need-returns-2
+returns-2 c =
+    let test = c .before .before .before in
+    rw (
+      test .before .before .before .found .given .1,
+      sym (test .before .has-cells .ensures) ∙ test .if1 .taken,
+      ← c .before .before .prop-word .ensures,
+      ← c .before .cells-at .ensures,
+    ) (c .affine-only .ensures)
+
+returns-3 : tie.Need-returns-3
+returns-3 c = rw (c .before .before .before .found .given .1, sym (c .before .has-cells .ensures) ∙ c .if1 .left)
+
+pub mpidr-in-spec : {M : Type 1} → statement M
+mpidr-in-spec =
+    tie.close
+    (tie.spec
+    enum-known-found
+    enum-told
+    returns
+    has-cells-requires
+    prop-word-requires
+    cells-at-requires
+    affine-only-requires
+    returns-2
+    returns-3)
