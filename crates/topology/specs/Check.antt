@@ -10,12 +10,14 @@ use Rattle.names.specs.declared.TopologyName.{TopologyName}
 use Rattle.names.specs.declared.TopologyName.the-variants.{Socket, Cluster, Core, Thread, Other}
 use Rattle.tables.specs.Board.{nodeCount, parentWord}
 use Rattle.tables.specs.Tree.{isBelow}
+use Rattle.keys.specs.declared.Key.the-variants.{Cpu}
+use Rattle.keys.specs.Key.{cpuKey}
+use Rattle.keys.specs.Index.{keyAt}
 use Rattle.cpus.specs.declared.Cell.{Cell}
 use Rattle.cpus.specs.declared.Cell.the-variants as cell
-use Rattle.cpus.specs.Cell.{cellOf}
+use Rattle.cpus.specs.Cell.{cellIn, cellOf}
 use Rattle.cpus.specs.Check.{isChild}
 use Rattle.topology.specs.declared.RecordCheck.{RecordCheck}
-use Rattle.topology.specs.Words.{cpuKey}
 use Rattle.topology.specs.Path.{topologyName, clusterPath}
 use Rattle.topology.specs.declared.ClusterPath.{ClusterPath}
 
@@ -89,6 +91,10 @@ leafCpu cells phandles i = indexOf phandles (cells i)
 -- the cell of each record's `cpu`, looked up
 abbrev pub cpuCells : List ℕ → List ℕ → ℕ → Cell
 cpuCells props pool i = cellOf props pool i cpuKey
+
+-- the same, by a table of keys
+abbrev pub keyCells : List ℕ → List ℕ → List ℕ → ℕ → Cell
+keyCells props pool keys i = cellIn props pool (keyAt keys i Cpu)
 
 -- rule 23, and 22 of a cluster under parent p
 abbrev pub groupFault : List ℕ → ℕ → ℕ

@@ -3,12 +3,13 @@ use crate::RecordCheck;
 use crate::TreeScan;
 use crate::check::record_check;
 use cpus::MAX_CPUS;
+use keys::KEY_WORDS;
 use laws::REPEATED_LEAF_CPU;
 ghost use mathlib.Core.Path.{_≡_};
 ghost use Prim.Native.Nat.{_≤_};
 ghost use lib.ListN.{length, replicate};
 ghost use Rattle.cpus.specs.Rules.{maxCpus};
-ghost use Rattle.topology.specs.Check.{cpuCells};
+ghost use Rattle.topology.specs.Check.{keyCells};
 ghost use Rattle.topology.specs.Scan.{tree, passed, leavesOver, namedOver};
 ghost use Rattle.topology.specs.Pass.{isMarked, Marked, checkedFault, leafScan};
 
@@ -54,6 +55,7 @@ pub fn gather(
     nodes: &[u32],
     props: &[u32],
     pool: &[u8],
+    keys: &[u16; KEY_WORDS],
     map: usize,
     phandles: &[u64],
     marks: &mut [u8],
@@ -62,23 +64,23 @@ pub fn gather(
 ) -> TreeScan
     requires { ⌜ (length (now phandles) ≤ maxCpus) × (now marks ≡ replicate maxCpus 0) ⌝ }
     ensures answer { λ r.
-        let t = tree (now (nodes .entry)) (cpuCells (now (props .entry)) (now (pool .entry))) (now (pool .entry)) map (now (phandles .entry)) in
+        let t = tree (now (nodes .entry)) (keyCells (now (props .entry)) (now (pool .entry)) (now (keys .entry))) (now (pool .entry)) map (now (phandles .entry)) in
         ⌜ r ≡ leafScan t ⌝ }
     ensures marks { λ _.
-        let t = tree (now (nodes .entry)) (cpuCells (now (props .entry)) (now (pool .entry))) (now (pool .entry)) map (now (phandles .entry)) in
+        let t = tree (now (nodes .entry)) (keyCells (now (props .entry)) (now (pool .entry)) (now (keys .entry))) (now (pool .entry)) map (now (phandles .entry)) in
         ⌜ Marked t (passed t) (now (marks .exit)) ⌝ }
     ensures leaves { λ _.
-        let t = tree (now (nodes .entry)) (cpuCells (now (props .entry)) (now (pool .entry))) (now (pool .entry)) map (now (phandles .entry)) in
+        let t = tree (now (nodes .entry)) (keyCells (now (props .entry)) (now (pool .entry)) (now (keys .entry))) (now (pool .entry)) map (now (phandles .entry)) in
         ⌜ now (leaves .exit) ≡ leavesOver t (now (leaves .entry)) ⌝ }
     ensures named { λ _.
-        let t = tree (now (nodes .entry)) (cpuCells (now (props .entry)) (now (pool .entry))) (now (pool .entry)) map (now (phandles .entry)) in
+        let t = tree (now (nodes .entry)) (keyCells (now (props .entry)) (now (pool .entry)) (now (keys .entry))) (now (pool .entry)) map (now (phandles .entry)) in
         ⌜ now (named .exit) ≡ namedOver t (now (named .entry)) ⌝ }
 {
     let n = nodes.len() / 3;
     let mut count: usize = 0;
     let mut i: usize = 0;
     while i < n {
-        let check = record_check(nodes, props, pool, map, phandles, i);
+        let check = record_check(nodes, props, pool, keys, map, phandles, i);
         let number = checked_fault(marks, check);
         if number != 0 {
             return refuse(number, i);

@@ -4,6 +4,7 @@ use crate::gather::gather;
 use crate::gather::is_marked;
 use crate::gather::refuse;
 use cpus::MAX_CPUS;
+use keys::KEY_WORDS;
 use laws::BAD_CPU_COUNT;
 use laws::Fault;
 use laws::UNMAPPED_CPU;
@@ -11,7 +12,7 @@ ghost use mathlib.Core.Path.{_≡_};
 ghost use lib.ListN.{length};
 ghost use Rattle.laws.specs.Fault.{firstFault};
 ghost use Rattle.laws.specs.Listed.{toldOf};
-ghost use Rattle.topology.specs.Check.{cpuCells};
+ghost use Rattle.topology.specs.Check.{keyCells};
 ghost use Rattle.topology.specs.Scan.{tree, treeScan, leavesOver, namedOver};
 ghost use Rattle.topology.specs.Pass.{unmarkedFault};
 
@@ -42,6 +43,7 @@ pub fn read_tree(
     nodes: &[u32],
     props: &[u32],
     pool: &[u8],
+    keys: &[u16; KEY_WORDS],
     map: usize,
     cpu_records: &[usize],
     phandles: &[u64],
@@ -49,20 +51,30 @@ pub fn read_tree(
     named: &mut [usize; MAX_CPUS],
 ) -> TreeScan
     ensures answer { λ r.
-        let t = tree (now (nodes .entry)) (cpuCells (now (props .entry)) (now (pool .entry))) (now (pool .entry)) map (now (phandles .entry)) in
+        let t = tree (now (nodes .entry)) (keyCells (now (props .entry)) (now (pool .entry)) (now (keys .entry))) (now (pool .entry)) map (now (phandles .entry)) in
         ⌜ r ≡ treeScan t (now («cpu_records» .entry)) ⌝ }
     ensures leaves { λ _.
-        let t = tree (now (nodes .entry)) (cpuCells (now (props .entry)) (now (pool .entry))) (now (pool .entry)) map (now (phandles .entry)) in
+        let t = tree (now (nodes .entry)) (keyCells (now (props .entry)) (now (pool .entry)) (now (keys .entry))) (now (pool .entry)) map (now (phandles .entry)) in
         ⌜ now (leaves .exit) ≡ leavesOver t (now (leaves .entry)) ⌝ }
     ensures named { λ _.
-        let t = tree (now (nodes .entry)) (cpuCells (now (props .entry)) (now (pool .entry))) (now (pool .entry)) map (now (phandles .entry)) in
+        let t = tree (now (nodes .entry)) (keyCells (now (props .entry)) (now (pool .entry)) (now (keys .entry))) (now (pool .entry)) map (now (phandles .entry)) in
         ⌜ now (named .exit) ≡ namedOver t (now (named .entry)) ⌝ }
 {
     if MAX_CPUS < phandles.len() {
         return refuse(BAD_CPU_COUNT, 0);
     }
     let mut marks = [0u8; MAX_CPUS];
-    let scan = gather(nodes, props, pool, map, phandles, &mut marks, leaves, named);
+    let scan = gather(
+        nodes,
+        props,
+        pool,
+        keys,
+        map,
+        phandles,
+        &mut marks,
+        leaves,
+        named,
+    );
     if scan.number != 0 {
         return scan;
     }

@@ -9,7 +9,7 @@ use borrow.Author.Tests.{not-true, not-false}
 use borrow.Author.Needs.{needs}
 use Rattle.tables.specs.Board.{nodeCount}
 use Rattle.topology.specs.declared.RecordCheck.{RecordCheck}
-use Rattle.topology.specs.Check.{cpuCells}
+use Rattle.topology.specs.Check.{keyCells}
 use Rattle.topology.specs.Scan.{Tree, tree, isLeaf, treeFault}
 use Rattle.topology.specs.Pass.{Marked}
 use Rattle.topology.proofs.LeafCount.{leaf-is}
@@ -18,17 +18,17 @@ use Rattle.topology.proofs.gather.gather.Statement.{statement}
 use Rattle.topology.proofs.gather.gather.Tie as tie
 
 abbrev Inv-loop : tie.InvT-loop
-Inv-loop nodes props pool map phandles marks₀ leaves₀ named₀ n count₀ i₀ marks leaves named count i = (i ≤ n) × Gathered (tree nodes (cpuCells props pool) pool map phandles) leaves₀ named₀ marks leaves named count i
+Inv-loop nodes props pool keys map phandles marks₀ leaves₀ named₀ n count₀ i₀ marks leaves named count i = (i ≤ n) × Gathered (tree nodes (keyCells props pool keys) pool map phandles) leaves₀ named₀ marks leaves named count i
 
 abbrev μ-loop : tie.MeasureT-loop
-μ-loop nodes props pool map phandles marks₀ leaves₀ named₀ n count₀ i₀ marks leaves named count i = n - i
+μ-loop nodes props pool keys map phandles marks₀ leaves₀ named₀ n count₀ i₀ marks leaves named count i = n - i
 
 -- the function's entry, and its tree
 abbrev entry : tie.At-loop Inv-loop μ-loop → tie.Start Inv-loop μ-loop
 entry c = c .before .before .before .before .before .before
 
 abbrev treeIn : tie.Start Inv-loop μ-loop → Tree
-treeIn s = let a = s .args in tree (a .nodes .now) (cpuCells (a .props .now) (a .pool .now)) (a .pool .now) (a .map) (a .phandles .now)
+treeIn s = let a = s .args in tree (a .nodes .now) (keyCells (a .props .now) (a .pool .now) (a .keys .now)) (a .pool .now) (a .map) (a .phandles .now)
 
 -- what the check of record i answers is what it breaks
 fault : (c : tie.After-checked-fault Inv-loop μ-loop) → let at = c .before .before .before .before in c .checked-fault .result ≡ treeFault (treeIn (entry at)) (at .loop .i)
