@@ -1,14 +1,14 @@
 -- Rules 18 to 25 at one record.
 use mathlib.Core.Bool.{Bool, true, false, cond}
 use mathlib.Core.List.{List}
-use Prim.Native.Nat.{ℕ, zero, suc, _+_}
-use lib.Dec.{eqb, ltb, leb}
-use lib.ListN.{length, getD}
+use Prim.Native.Nat.{ℕ, _+_}
+use lib.Dec.{eqb, ltb}
+use lib.ListN.{length}
 use Rattle.laws.specs.Fault.{orNumber}
 use Rattle.laws.specs.Search.{placeIn, countBelow}
 use Rattle.names.specs.declared.TopologyName.{TopologyName}
 use Rattle.names.specs.declared.TopologyName.the-variants.{Socket, Cluster, Core, Thread, Other}
-use Rattle.tables.specs.Board.{nodeCount, parentWord}
+use Rattle.tables.specs.Board.{parentWord}
 use Rattle.tables.specs.Tree.{isBelow}
 use Rattle.keys.specs.declared.Key.the-variants.{Cpu}
 use Rattle.keys.specs.Key.{cpuKey}
@@ -19,7 +19,6 @@ use Rattle.cpus.specs.Cell.{cellIn, cellOf}
 use Rattle.cpus.specs.Check.{isChild}
 use Rattle.topology.specs.declared.RecordCheck.{RecordCheck}
 use Rattle.topology.specs.Path.{topologyName, clusterPath}
-use Rattle.topology.specs.declared.ClusterPath.{ClusterPath}
 
 -- whether the record after i is its child; in a depth-first table, whether i has children
 unfoldable pub hasChild : List ℕ → ℕ → Bool

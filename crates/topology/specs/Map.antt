@@ -1,11 +1,10 @@
 -- The map and its records (01: map, below, outside, leaf, what a leaf names).
 use mathlib.Core.Path.{_≡_}
-use mathlib.Core.Logic.{_⊎_}
 use mathlib.Core.List.{List}
-use Prim.Native.Nat.{ℕ, _≤_, _<_}
+use Prim.Native.Nat.{ℕ, _≤_}
 use lib.ListN.{length}
 use Rattle.names.specs.Kind.{Kind, Named}
-use Rattle.tables.specs.Board.{Board, nodeCount, nodeName}
+use Rattle.tables.specs.Board.{Board, nodeName}
 use Rattle.tables.specs.Tree.{Child, Ancestor}
 use Rattle.tables.specs.Property.{HasValue}
 use Rattle.keys.specs.Key.{cpuKey, phandleKey}

@@ -10,9 +10,6 @@ use laws::BAD_LEAF_CPU;
 use laws::place_in;
 use names::TopologyName;
 ghost use mathlib.Core.Path.{_≡_};
-ghost use lib.Dec.{eqb};
-ghost use lib.ListN.{length, getD};
-ghost use Rattle.laws.specs.Search.{lowest};
 ghost use Rattle.topology.specs.Check.{indexOf, leafCpu, keyCells, broken, leafCheck, isLeafName};
 
 // Whether the name of record i is a leaf's: a thread's, or that of a core without children.

@@ -7,7 +7,6 @@ use native.Mathlib.Omega.{arith}
 use lib.ListN.{length, replicate, length-replicate}
 use borrow.Author.Tests.{not-true, not-false}
 use borrow.Author.Needs.{needs}
-use Rattle.tables.specs.Board.{nodeCount}
 use Rattle.topology.specs.declared.RecordCheck.{RecordCheck}
 use Rattle.topology.specs.Check.{keyCells}
 use Rattle.topology.specs.Scan.{Tree, tree, isLeaf, treeFault}
