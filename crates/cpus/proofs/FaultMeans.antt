@@ -18,7 +18,8 @@ use Rattle.cpus.specs.declared.Cell.{Cell}
 use Rattle.cpus.specs.declared.Cell.the-variants as cell
 use Rattle.cpus.specs.declared.Mpidr.{Mpidr}
 use Rattle.cpus.specs.declared.Mpidr.the-variants as read
-use Rattle.cpus.specs.Words.{cpusWord, cpuString, sizeCellsKey, deviceTypeKey}
+use Rattle.keys.specs.Key.{deviceTypeKey}
+use Rattle.cpus.specs.Words.{cpusWord, cpuString, sizeCellsKey}
 use Rattle.cpus.specs.Node.{Cpu, AddressCells, SizeCells, Reg, mpidr, Phandle}
 use Rattle.cpus.specs.Rules.{maxCpus, CpuRule}
 use Rattle.cpus.specs.Cell.{cellOf, mpidrOf}

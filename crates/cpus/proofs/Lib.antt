@@ -7,6 +7,7 @@ pub mod FaultMeans
 pub mod CpuGives
 pub mod RuleMeans
 pub mod CpuTells
-pub mod PartLaws
 pub mod CodeLaws
+pub mod GatherLaws
 pub mod ScanLaws
+pub mod RootLaws

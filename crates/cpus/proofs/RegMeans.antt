@@ -20,7 +20,8 @@ use Rattle.cpus.specs.declared.Cell.{Cell}
 use Rattle.cpus.specs.declared.Cell.the-variants.{Is, Not}
 use Rattle.cpus.specs.declared.Mpidr.{Mpidr}
 use Rattle.cpus.specs.declared.Mpidr.the-variants as read
-use Rattle.cpus.specs.Words.{addressCellsKey, regKey, phandleKey}
+use Rattle.keys.specs.Key.{regKey, phandleKey}
+use Rattle.cpus.specs.Words.{addressCellsKey}
 use Rattle.cpus.specs.Node.{CellsAllowed, AddressCells, Reg, mpidr, Phandle}
 use Rattle.cpus.specs.Cell.{valueSized, cellsAt, mpidrOf}
 use Rattle.cpus.specs.Check.{cellsFor, addressCells, phandleIn, phandleOf}

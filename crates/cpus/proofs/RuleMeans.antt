@@ -10,7 +10,8 @@ use Rattle.tables.specs.Board.{Board}
 use Rattle.tables.specs.Order.{stage}
 use Rattle.tables.specs.Property.{HasValue}
 use Rattle.tables.specs.Rules.{WellFormed}
-use Rattle.cpus.specs.Words.{deviceTypeKey, cpuString, regKey}
+use Rattle.keys.specs.Key.{regKey, deviceTypeKey}
+use Rattle.cpus.specs.Words.{cpuString}
 use Rattle.cpus.specs.Node.{Cpu, Reg}
 use Rattle.cpus.specs.Rules.{CpuRule}
 use Rattle.cpus.specs.Check.{addressCells, cpuList}

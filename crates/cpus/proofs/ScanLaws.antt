@@ -1,37 +1,73 @@
--- What was gathered is what the scans of rules 9 to 13 and of rule 17 answer. Assumes nothing.
-use mathlib.Core.Path.{_≡_, refl, sym, ap, _∙_}
+-- What is gathered of the cpu records is what rules 11 to 13 and rule 17 tell of them. Assumes nothing.
+use mathlib.Core.Path.{_≡_, refl, sym, ap, _∙_, fun-ext}
 use mathlib.Core.Bool.{Bool, true, false, cond}
 use mathlib.Core.List.{List, map}
-use Prim.Native.Nat.{ℕ, _≤_, _<_}
+use Prim.Native.Nat.{ℕ, _<_}
 use native.Mathlib.Omega.{arith}
-use lib.Dec.{eqb, ltb}
-use borrow.Author.Tests.{ltb-false, eq-eqb, ne-eqb, eqb-true, eqb-false, lt-ltb, le-ltb}
+use lib.Dec.{eqb}
+use lib.ListN.{length, getD}
+use lib.Seq.{take-length}
+use borrow.Author.Tests.{eq-eqb, ne-eqb, eqb-true, eqb-false}
 use Rattle.laws.specs.declared.Fault.{Fault}
-use Rattle.laws.specs.Fault.{told, orElse, firstFault}
-use Rattle.laws.specs.Search.{anyBelow, countBelow, listBelow}
-use Rattle.laws.specs.Pad.{padded}
+use Rattle.laws.specs.Fault.{firstFault}
+use Rattle.laws.specs.Search.{anyBelow, countBelow, listBelow, isAmong}
+use Rattle.laws.specs.Listed.{over, toldOf}
 use Rattle.laws.proofs.FaultLaws.{first-is}
-use Rattle.laws.proofs.OrElseLaws.{told-first, told-second}
-use Rattle.laws.proofs.GatherLaws.{any-same, map-below, first-same}
+use Rattle.laws.proofs.OrElseLaws.{told-number}
+use Rattle.laws.proofs.GatherLaws.{any-same, gathered-seen, map-below, first-same}
+use Rattle.laws.proofs.ListedLaws.{list-before, first-listed}
 use Rattle.tables.specs.Board.{Board, nodeCount}
+use Rattle.tables.specs.Property.{lookup}
+use Rattle.keys.specs.declared.Key.{Key}
+use Rattle.keys.specs.Key.{keyName, deviceTypeKey}
+use Rattle.keys.specs.Index.{keyAt}
 use Rattle.cpus.specs.declared.Cell.{Cell}
 use Rattle.cpus.specs.declared.Cell.the-variants.{Is, Not}
 use Rattle.cpus.specs.declared.Mpidr.{Mpidr}
 use Rattle.cpus.specs.declared.Mpidr.the-variants as mpidr
+use Rattle.cpus.specs.declared.Wanted.{Wanted}
 use Rattle.cpus.specs.declared.Wanted.the-variants.{Mpidrs, Phandles}
 use Rattle.cpus.specs.declared.Reading.{Reading}
-use Rattle.cpus.specs.declared.Gathered.{Gathered}
-use Rattle.cpus.specs.declared.CpuScan.{CpuScan}
-use Rattle.cpus.specs.Rules.{maxCpus}
-use Rattle.cpus.specs.Words.{cpuString, deviceTypeKey}
-use Rattle.cpus.specs.Cell.{hasValue, mpidrOf}
-use Rattle.cpus.specs.Check.{isCpu, addressCells, rootFault, countFault, cpuCount, mpidrFault, sameMpidr, mpidrNumber, mpidrAt, cpuFault, cpusFault, cpusOf, noCpus, cpuScan, phandleOf, cellFault, sameCell, cellNumber, phandleFault, phandlesFault, phandleScan}
-use Rattle.cpus.specs.Gather.{reading, mpidrReading, phandleReading, readingOf, unlessSeen, refused, gatherFault, gathered, cpusIn, phandlesIn}
+use Rattle.cpus.specs.Words.{cpuString}
+use Rattle.cpus.specs.Cell.{cellOf, hasValue, mpidrOf}
+use Rattle.cpus.specs.Check.{isCpu, addressCells, cpuList, mpidrFault, sameMpidr, mpidrNumber, mpidrAt, cpuFault, phandleOf, cellFault, sameCell, cellNumber, phandleFault, phandleList}
+use Rattle.cpus.specs.Gather.{reading, mpidrReading, phandleReading, readingFrom, readingAt, readingOf, unlessSeen, listedFault, firstIndex, firstRecord, numbersOver}
 
--- a function of one of two
-either : {A B : Type 0} (f : A → B) (t : Bool) (x y : A) → f (cond t x y) ≡ cond t (f x) (f y)
-either f true x y = refl
-either f false x y = refl
+-- what place i that passes p breaks, 0 where nothing, given the readings of all
+unfoldable gatherFault : (ℕ → Bool) → (ℕ → Reading) → ℕ → ℕ → ℕ
+gatherFault p r rule i =
+    cond (p i) (unlessSeen rule (anyBelow (λ j. cond (p j) (eqb (r j .value) (r i .value)) false) i) (r i) .number) 0
+
+-- the places that pass p, listed: their first fault
+module _ (p : ℕ → Bool) (r : ℕ → Reading) (rule n : ℕ) where
+  -- what place i breaks, given the numbers of the places listed before it
+  abbrev ownFault : ℕ → ℕ → ℕ
+  ownFault k i = unlessSeen rule (isAmong (map (λ j. r j .value) (listBelow p i)) (r i .value)) (r i) .number
+
+  listed-own : (k : ℕ) → k < length (listBelow p n) → listedFault r rule (listBelow p n) k ≡ ownFault k (getD (listBelow p n) k 0)
+  unfolding listedFault
+  listed-own k lt =
+      let q = r (getD (listBelow p n) k 0) in
+      ap (λ (l : List ℕ). unlessSeen rule (isAmong (map (λ j. r j .value) l) (q .value)) q .number) (list-before p n k lt)
+
+  own-gathered : (i : ℕ) → cond (p i) (ownFault (countBelow p i) i) 0 ≡ gatherFault p r rule i
+  unfolding gatherFault
+  own-gathered i =
+      ap (λ (s : Bool). cond (p i) (unlessSeen rule s (r i) .number) 0)
+      (gathered-seen p (λ j. r j .value) (λ j. eqb (r j .value) (r i .value)) (r i .value) i (λ j _ _. refl))
+
+  first-gathered : firstRecord r rule (listBelow p n) ≡ firstFault (gatherFault p r rule) n
+  unfolding firstRecord
+  first-gathered =
+      ap (toldOf (listBelow p n)) (first-same (listedFault r rule (listBelow p n)) (λ k. ownFault k (getD (listBelow p n) k 0)) (length (listBelow p n)) (λ k lt _. listed-own k lt))
+      ∙ first-listed p ownFault n
+      ∙ first-same (λ i. cond (p i) (ownFault (countBelow p i) i) 0) (gatherFault p r rule) n (λ i _ _. own-gathered i)
+
+  all-numbers : (before : List ℕ) → firstRecord r rule (listBelow p n) .number ≡ 0 → numbersOver r rule (listBelow p n) before ≡ over (map (λ i. r i .value) (listBelow p n)) before
+  unfolding firstRecord numbersOver
+  all-numbers before z =
+      let none : firstIndex r rule (listBelow p n) .number ≡ 0 = sym (told-number _ _) ∙ z in
+      rw (eq-eqb _ 0 none, take-length (listBelow p n))
 
 -- a reading that breaks a rule by itself, and one that does not
 unless-broken : (rule : ℕ) (seen : Bool) (q : Reading) → (q .number ≡ 0 → ⊥) → unlessSeen rule seen q .number ≡ q .number
@@ -81,9 +117,6 @@ module _ (p : ℕ → Bool) (r : ℕ → Reading) (rule : ℕ) (tells : ℕ → 
           unless-sound rule (repeated i) (r i) z ∙ ap (λ (s : Bool). cond s rule 0) (seen-same i none z) ∙ sound i z _
       go false e = let ne = eqb-false (r i .number) 0 e in unless-broken rule (repeated i) (r i) ne ∙ broken i ne _
 
-  abbrev full : (ℕ → ℕ) → ℕ → Gathered
-  full g n = record { number = 0; place = 0; count = countBelow p n; records = padded 256 (listBelow p n); values = padded 256 (map g (listBelow p n)) }
-
   -- the numbers v of the places, where the gathering tells no fault
   numbers :
       (v : ℕ → ℕ) (n : ℕ) →
@@ -93,44 +126,33 @@ module _ (p : ℕ → Bool) (r : ℕ → Reading) (rule : ℕ) (tells : ℕ → 
   numbers v n value z =
       map-below p (λ i. r i .value) v n (λ i lt e. value i (sound-reading i e (first-is (gatherFault p r rule) n .none z .1 i lt)))
 
-  -- what a function makes of what is gathered, by that stage and the numbers v
-  pub gathered-as :
-      {A : Type 0} (f : Gathered → A) (v : ℕ → ℕ) (n : ℕ) →
+  -- the first fault of the list is that of the stage, and where it tells none the numbers are v
+  listed-told : (n : ℕ) → firstRecord r rule (listBelow p n) ≡ firstFault stageFault n
+  listed-told n = first-gathered p r rule n ∙ first-same (gatherFault p r rule) stageFault n (λ i _ none. same-fault i none)
+
+  listed-read :
+      (v : ℕ → ℕ) (n : ℕ) (before : List ℕ) →
       ((i : ℕ) → r i .number ≡ 0 → r i .value ≡ v i) →
-      let fault = firstFault stageFault n in
-      f (gathered p r rule n) ≡ cond (eqb (fault .number) 0) (f (full v n)) (f (refused (fault .number) (fault .place)))
-  unfolding gathered
-  gathered-as {A} f v n value =
-      either f (eqb (found .number) 0) (full (λ i. r i .value) n) (refused (found .number) (found .place))
-      ∙ go (eqb (found .number) 0) refl
-      ∙ ap (answer v) (first-same (gatherFault p r rule) stageFault n (λ i _ none. same-fault i none))
-    where
-      found : Fault
-      found = firstFault (gatherFault p r rule) n
-
-      answer : (ℕ → ℕ) → Fault → A
-      answer g a = cond (eqb (a .number) 0) (f (full g n)) (f (refused (a .number) (a .place)))
-
-      go : (b : Bool) → eqb (found .number) 0 ≡ b → answer (λ i. r i .value) found ≡ answer v found
-      go true e =
-          ap
-          (λ (l : List ℕ). cond (eqb (found .number) 0) (f (record { number = 0; place = 0; count = countBelow p n; records = padded 256 (listBelow p n); values = padded 256 l })) (f (refused (found .number) (found .place))))
-          (numbers v n value (eqb-true (found .number) 0 e))
-      go false e = rw e
+      firstFault stageFault n .number ≡ 0 →
+      numbersOver r rule (listBelow p n) before ≡ over (map v (listBelow p n)) before
+  listed-read v n before value z =
+      let none = ap (λ (a : Fault). a .number) (listed-told n) ∙ z in
+      all-numbers p r rule n before none
+      ∙ ap (λ (l : List ℕ). over l before) (numbers v n value (ap (λ (a : Fault). a .number) (sym (first-gathered p r rule n)) ∙ none))
 
 -- the reading of an MPIDR where the device type is `cpu` (t) or not, and what the stage of rules 11 to 13 tells of it
 abbrev ownReading : Bool → Mpidr → Reading
 ownReading t x = cond t (mpidrReading x) (reading 11 0)
 
-abbrev ownFault : Bool → Mpidr → Bool → ℕ
-ownFault t x s = cond t (mpidrFault s x) 11
+abbrev typeFault : Bool → Mpidr → Bool → ℕ
+typeFault t x s = cond t (mpidrFault s x) 11
 
-mpidr-sound : (t : Bool) (x : Mpidr) → ownReading t x .number ≡ 0 → (s : Bool) → cond s 13 0 ≡ ownFault t x s
+mpidr-sound : (t : Bool) (x : Mpidr) → ownReading t x .number ≡ 0 → (s : Bool) → cond s 13 0 ≡ typeFault t x s
 mpidr-sound true (mpidr.Is m) z s = refl
 mpidr-sound true mpidr.Not z s = absurd (omega arith)
 mpidr-sound false x z s = absurd (omega arith)
 
-mpidr-broken : (t : Bool) (x : Mpidr) → (ownReading t x .number ≡ 0 → ⊥) → (s : Bool) → ownReading t x .number ≡ ownFault t x s
+mpidr-broken : (t : Bool) (x : Mpidr) → (ownReading t x .number ≡ 0 → ⊥) → (s : Bool) → ownReading t x .number ≡ typeFault t x s
 mpidr-broken true (mpidr.Is m) ne s = absurd (ne refl)
 mpidr-broken true mpidr.Not ne s = refl
 mpidr-broken false x ne s = refl
@@ -151,77 +173,50 @@ mpidr-value true (mpidr.Is m) z = refl
 mpidr-value true mpidr.Not z = absurd (omega arith)
 mpidr-value false x z = absurd (omega arith)
 
--- a number of cpu records that rule 10 allows
-pub count-fits : (n : ℕ) → countFault n ≡ 0 → n ≤ maxCpus
-count-fits n z = go (eqb n 0) refl (ltb maxCpus n) refl z
-  where
-    go : (a : Bool) → eqb n 0 ≡ a → (d : Bool) → ltb maxCpus n ≡ d → _≡_ {A = ℕ} (cond a 10 (cond d 10 0)) 0 → n ≤ maxCpus
-    go true e d q h = absurd (omega arith)
-    go false e true q h = absurd (omega arith)
-    go false e false q h = ltb-false maxCpus n q
+-- a table of keys that tells what a lookup finds gives the same readings
+pub same-reading :
+    (w : Wanted) (props pool keys : List ℕ) →
+    ((i : ℕ) (key : Key) → keyAt keys i key ≡ lookup props pool i (keyName key)) →
+    readingAt w props pool keys ≡ readingOf w props pool
+unfolding readingOf
+same-reading w props pool keys same = fun-ext (λ i. ap (readingFrom w props pool) (fun-ext (same i)))
 
 module _ (b : Board) where
-  abbrev mpidrReadings : ℕ → Reading
-  mpidrReadings = readingOf (Mpidrs (addressCells b)) (b .props) (b .pool)
-
   abbrev typed : ℕ → Bool
   typed i = hasValue (b .props) (b .pool) i deviceTypeKey cpuString
 
   abbrev mpidrs : ℕ → Mpidr
   mpidrs = mpidrOf (b .props) (b .pool) (addressCells b)
 
-  abbrev cpuRecord : ℕ → Bool
-  cpuRecord = isCpu (b .nodes) (b .pool)
+  -- the readings of the cpu records
+  abbrev pub mpidrReadings : ℕ → Reading
+  mpidrReadings = readingOf (Mpidrs (addressCells b)) (b .props) (b .pool)
 
-  -- the answer where F is the first fault
-  abbrev scanOf : Fault → CpuScan
-  scanOf a = cond (eqb (a .number) 0) (record { number = 0; place = 0; cpus = cpusOf b }) (record { number = a .number; place = a .place; cpus = noCpus })
-
-  scan-gathered : cpusIn (gathered cpuRecord mpidrReadings 13 (nodeCount (b .nodes))) ≡ scanOf (firstFault (cpuFault b) (nodeCount (b .nodes)))
-  unfolding readingOf cpuFault cpusOf
-  scan-gathered =
-      gathered-as cpuRecord mpidrReadings 13
-      (λ i s. ownFault (typed i) (mpidrs i) s)
+  pub mpidrs-told : firstRecord mpidrReadings 13 (cpuList b) ≡ firstFault (cpuFault b) (nodeCount (b .nodes))
+  unfolding readingFrom readingOf hasValue mpidrOf cpuFault
+  mpidrs-told =
+      listed-told (isCpu (b .nodes) (b .pool)) mpidrReadings 13
+      (λ i s. typeFault (typed i) (mpidrs i) s)
       (λ j i. sameMpidr (mpidrs j) (mpidrs i))
       (λ i. mpidr-sound (typed i) (mpidrs i))
       (λ i. mpidr-broken (typed i) (mpidrs i))
       (λ i j. mpidr-agree (typed i) (typed j) (mpidrs i) (mpidrs j))
-      cpusIn (mpidrAt b) (nodeCount (b .nodes))
+      (nodeCount (b .nodes))
+
+  pub mpidrs-read :
+      (before : List ℕ) →
+      firstFault (cpuFault b) (nodeCount (b .nodes)) .number ≡ 0 →
+      numbersOver mpidrReadings 13 (cpuList b) before ≡ over (map (mpidrAt b) (cpuList b)) before
+  unfolding readingFrom readingOf hasValue mpidrOf cpuFault
+  mpidrs-read before =
+      listed-read (isCpu (b .nodes) (b .pool)) mpidrReadings 13
+      (λ i s. typeFault (typed i) (mpidrs i) s)
+      (λ j i. sameMpidr (mpidrs j) (mpidrs i))
+      (λ i. mpidr-sound (typed i) (mpidrs i))
+      (λ i. mpidr-broken (typed i) (mpidrs i))
+      (λ i j. mpidr-agree (typed i) (typed j) (mpidrs i) (mpidrs j))
+      (mpidrAt b) (nodeCount (b .nodes)) before
       (λ i. mpidr-value (typed i) (mpidrs i))
-
-  -- the stages of rules 10 and 11 to 13
-  abbrev fromRecords : Fault
-  fromRecords = firstFault (cpuFault b) (nodeCount (b .nodes))
-
-  abbrev fromCount : Fault
-  fromCount = orElse (told (countFault (cpuCount b)) 0) fromRecords
-
-  -- a fault of rule 9 or 10 is the answer
-  told-scan : {v : ℕ} → (v ≡ 0 → ⊥) → record { number = v; place = 0 } ≡ cpusFault b → cpusIn (refused v 0) ≡ cpuScan b
-  unfolding cpuScan
-  told-scan {v} ne e = rw (← e, ne-eqb v 0 ne)
-
-  pub root-told : {v : ℕ} → v ≡ rootFault b → (v ≡ 0 → ⊥) → cpusIn (refused v 0) ≡ cpuScan b
-  unfolding cpusFault
-  root-told {v} e ne = told-scan ne (told-first v 0 fromCount ne ∙ ap (λ (n : ℕ). orElse (told n 0) fromCount) e)
-
-  past-root : {v : ℕ} → v ≡ rootFault b → v ≡ 0 → fromCount ≡ cpusFault b
-  unfolding cpusFault
-  past-root e z = sym (told-second (rootFault b) 0 fromCount (sym e ∙ z))
-
-  pub count-told : {v w : ℕ} → v ≡ rootFault b → v ≡ 0 → w ≡ countFault (cpuCount b) → (w ≡ 0 → ⊥) → cpusIn (refused w 0) ≡ cpuScan b
-  count-told {v} {w} e z d ne = told-scan ne (told-first w 0 fromRecords ne ∙ ap (λ (n : ℕ). orElse (told n 0) fromRecords) d ∙ past-root e z)
-
-  pub gathered-told :
-      {v w : ℕ} →
-      v ≡ rootFault b →
-      v ≡ 0 →
-      w ≡ countFault (cpuCount b) →
-      w ≡ 0 →
-      cpusIn (gathered cpuRecord mpidrReadings 13 (nodeCount (b .nodes))) ≡ cpuScan b
-  unfolding cpuScan
-  gathered-told e z d y =
-      scan-gathered ∙ ap scanOf (sym (told-second (countFault (cpuCount b)) 0 fromRecords (sym d ∙ y)) ∙ past-root e z)
 
 -- the reading of a phandle, and what the stage of rule 17 tells of it
 phandle-sound : (x : Cell) → phandleReading x .number ≡ 0 → (s : Bool) → cond s 17 0 ≡ cellFault s x
@@ -246,22 +241,29 @@ module _ (nodes props pool : List ℕ) where
   abbrev phandles : ℕ → Cell
   phandles = phandleOf props pool
 
-  abbrev cpus : ℕ
-  cpus = countBelow (isCpu nodes pool) (nodeCount nodes)
-
-  pub phandles-many : maxCpus < cpus → phandlesIn (refused 10 0) ≡ phandleScan nodes props pool
-  unfolding phandleScan phandlesFault
-  phandles-many lt = rw (lt-ltb maxCpus cpus lt)
-
-  pub phandles-gathered : cpus ≤ maxCpus → phandlesIn (gathered (isCpu nodes pool) (readingOf Phandles props pool) 17 (nodeCount nodes)) ≡ phandleScan nodes props pool
-  unfolding readingOf phandleScan phandlesFault phandleFault
-  phandles-gathered le =
-      rw (le-ltb maxCpus cpus le)
-      (gathered-as (isCpu nodes pool) (readingOf Phandles props pool) 17
+  pub phandles-told :
+      firstRecord (readingOf Phandles props pool) 17 (listBelow (isCpu nodes pool) (nodeCount nodes)) ≡ firstFault (phandleFault nodes props pool) (nodeCount nodes)
+  unfolding readingFrom readingOf cellOf phandleOf phandleFault
+  phandles-told =
+      listed-told (isCpu nodes pool) (readingOf Phandles props pool) 17
       (λ i s. cellFault s (phandles i))
       (λ j i. sameCell (phandles j) (phandles i))
       (λ i. phandle-sound (phandles i))
       (λ i. phandle-broken (phandles i))
       (λ i j. phandle-agree (phandles i) (phandles j))
-      phandlesIn (λ i. cellNumber (phandles i)) (nodeCount nodes)
-      (λ i. phandle-value (phandles i)))
+      (nodeCount nodes)
+
+  pub phandles-read :
+      (before : List ℕ) →
+      firstFault (phandleFault nodes props pool) (nodeCount nodes) .number ≡ 0 →
+      numbersOver (readingOf Phandles props pool) 17 (listBelow (isCpu nodes pool) (nodeCount nodes)) before ≡ over (phandleList nodes props pool) before
+  unfolding readingFrom readingOf cellOf phandleOf phandleFault
+  phandles-read before =
+      listed-read (isCpu nodes pool) (readingOf Phandles props pool) 17
+      (λ i s. cellFault s (phandles i))
+      (λ j i. sameCell (phandles j) (phandles i))
+      (λ i. phandle-sound (phandles i))
+      (λ i. phandle-broken (phandles i))
+      (λ i j. phandle-agree (phandles i) (phandles j))
+      (λ i. cellNumber (phandles i)) (nodeCount nodes) before
+      (λ i. phandle-value (phandles i))

@@ -1,7 +1,7 @@
 -- Reading a property's value as cells.
-use mathlib.Core.Bool.{Bool, true, false, cond}
+use mathlib.Core.Bool.{Bool, false, cond}
 use mathlib.Core.List.{List}
-use Prim.Native.Nat.{ℕ, _+_, _-_, _*_, _^_}
+use Prim.Native.Nat.{ℕ, _+_, _*_, _^_}
 use lib.Dec.{eqb, leb}
 use lib.ListN.{length}
 use Rattle.affinity.specs.Level.{isAffine}
@@ -9,11 +9,11 @@ use Rattle.tables.specs.declared.Lookup.{Lookup}
 use Rattle.tables.specs.declared.Lookup.the-variants.{At, Missing}
 use Rattle.tables.specs.Board.{valueOffset, valueLength, rangeIs}
 use Rattle.tables.specs.Property.{lookup, cellAt}
+use Rattle.keys.specs.Key.{regKey}
 use Rattle.cpus.specs.declared.Cell.{Cell}
 use Rattle.cpus.specs.declared.Cell.the-variants.{Is, Not}
 use Rattle.cpus.specs.declared.Mpidr.{Mpidr}
 use Rattle.cpus.specs.declared.Mpidr.the-variants as mpidr
-use Rattle.cpus.specs.Words.{regKey}
 
 -- whether property k's value lies inside the pool and has a length
 abbrev pub valueSized : List ℕ → List ℕ → ℕ → ℕ → Bool
@@ -35,6 +35,11 @@ valueIn props pool bytes Missing = false
 
 unfoldable pub hasValue : List ℕ → List ℕ → ℕ → List ℕ → List ℕ → Bool
 hasValue props pool i key bytes = valueIn props pool bytes (lookup props pool i key)
+
+-- whether a cell is `cpu` and one zero byte
+abbrev pub isCpuString : Cell → Bool
+isCpuString (Is w) = eqb w 0x63707500
+isCpuString Not = false
 
 -- the MPIDR of the cells from `at` on: the lower cell alone, or the upper and the lower
 abbrev pub cellsAt : List ℕ → ℕ → ℕ → ℕ

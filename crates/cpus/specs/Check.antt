@@ -1,22 +1,18 @@
 -- What the checks of rules 9 to 13 and of rule 17 answer.
 use mathlib.Core.Bool.{Bool, true, false, cond}
-use mathlib.Core.List.{List, [], map}
-use Prim.Native.Nat.{ℕ, zero, suc, _<_}
+use mathlib.Core.List.{List, map}
+use Prim.Native.Nat.{ℕ}
 use lib.Dec.{eqb, ltb}
-use lib.ListN.{length}
 use Rattle.laws.specs.declared.Fault.{Fault}
 use Rattle.laws.specs.Fault.{told, orElse, firstFault}
 use Rattle.laws.specs.Search.{anyBelow, countBelow, listBelow}
-use Rattle.laws.specs.Pad.{padded}
 use Rattle.tables.specs.Board.{Board, nodeCount, parentWord, nameOffset, nameLength, rangeIs}
+use Rattle.keys.specs.Key.{phandleKey, deviceTypeKey}
 use Rattle.cpus.specs.declared.Cell.{Cell}
 use Rattle.cpus.specs.declared.Cell.the-variants.{Is, Not}
 use Rattle.cpus.specs.declared.Mpidr.{Mpidr}
 use Rattle.cpus.specs.declared.Mpidr.the-variants as mpidr
-use Rattle.cpus.specs.declared.Cpus.{Cpus}
-use Rattle.cpus.specs.declared.CpuScan.{CpuScan}
-use Rattle.cpus.specs.declared.PhandleScan.{PhandleScan}
-use Rattle.cpus.specs.Words.{cpusWord, cpuWord, cpuUnit, cpuString, addressCellsKey, sizeCellsKey, deviceTypeKey, phandleKey}
+use Rattle.cpus.specs.Words.{cpusWord, cpuWord, cpuUnit, cpuString, addressCellsKey, sizeCellsKey}
 use Rattle.cpus.specs.Cell.{cellOf, hasValue, mpidrOf}
 use Rattle.cpus.specs.Rules.{maxCpus}
 
@@ -49,6 +45,10 @@ rootFault b =
     cond (rangeIs (b .pool) (nameOffset (b .nodes) 0) (nameLength (b .nodes) 0) cpusWord)
     (cond (eqb (addressCells b) 0) 9 (cond (isZeroCell (cellOf (b .props) (b .pool) 0 sizeCellsKey)) 0 9))
     9
+
+-- the number of address cells, 0 where rule 9 is broken
+unfoldable pub soundCells : Board → ℕ
+soundCells b = cond (eqb (rootFault b) 0) (addressCells b) 0
 
 abbrev pub cpuCount : Board → ℕ
 cpuCount b = countBelow (isCpu (b .nodes) (b .pool)) (nodeCount (b .nodes))
@@ -99,18 +99,6 @@ cpusFault b =
 abbrev pub cpuList : Board → List ℕ
 cpuList b = listBelow (isCpu (b .nodes) (b .pool)) (nodeCount (b .nodes))
 
-unfoldable pub cpusOf : Board → Cpus
-cpusOf b = record { count = cpuCount b; records = padded 256 (cpuList b); mpidrs = padded 256 (map (mpidrAt b) (cpuList b)) }
-
-abbrev pub noCpus : Cpus
-noCpus = record { count = 0; records = padded 256 []; mpidrs = padded 256 [] }
-
--- the cpu records, or the first of rules 9 to 13 that is broken
-unfoldable pub cpuScan : Board → CpuScan
-cpuScan b =
-    cond (eqb (cpusFault b .number) 0) (record { number = 0; place = 0; cpus = cpusOf b })
-    (record { number = cpusFault b .number; place = cpusFault b .place; cpus = noCpus })
-
 -- a phandle: a cell that is neither 0 nor 0xFFFFFFFF
 abbrev pub phandleIn : Cell → Cell
 phandleIn (Is h) = cond (eqb h 0) Not (cond (eqb h 0xFFFFFFFF) Not (Is h))
@@ -147,9 +135,3 @@ phandlesFault nodes props pool =
 -- the phandles of the cpu records
 abbrev pub phandleList : List ℕ → List ℕ → List ℕ → List ℕ
 phandleList nodes props pool = map (λ i. cellNumber (phandleOf props pool i)) (listBelow (isCpu nodes pool) (nodeCount nodes))
-
--- the phandles of the cpu records, or the first that breaks rule 17
-unfoldable pub phandleScan : List ℕ → List ℕ → List ℕ → PhandleScan
-phandleScan nodes props pool =
-    cond (eqb (phandlesFault nodes props pool .number) 0) (record { number = 0; place = 0; values = padded 256 (phandleList nodes props pool) })
-    (record { number = phandlesFault nodes props pool .number; place = phandlesFault nodes props pool .place; values = padded 256 [] })

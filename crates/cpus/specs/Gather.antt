@@ -1,25 +1,29 @@
--- A number of each cpu record, its MPIDR or its phandle, gathered in one pass over the records.
-use mathlib.Core.Bool.{Bool, false, cond}
-use mathlib.Core.List.{List, [], map}
+-- A number of each cpu record of a list, its MPIDR or its phandle, gathered in one pass over the list.
+use mathlib.Core.Bool.{Bool, cond}
+use mathlib.Core.List.{List, map}
 use Prim.Native.Nat.{ℕ}
-use lib.Dec.{eqb}
-use lib.ListN.{length, getD}
-use Rattle.laws.specs.Fault.{firstFault}
-use Rattle.laws.specs.Search.{anyBelow, countBelow, listBelow}
-use Rattle.laws.specs.Pad.{padded}
+use lib.Dec.{eqb, ltb}
+use lib.ListN.{length, getD, take}
+use Rattle.laws.specs.declared.Fault.{Fault}
+use Rattle.laws.specs.Fault.{told, firstFault}
+use Rattle.laws.specs.Search.{isAmong}
+use Rattle.laws.specs.Listed.{over, toldOf, passedOf}
+use Rattle.tables.specs.declared.Lookup.{Lookup}
+use Rattle.tables.specs.Property.{lookup}
+use Rattle.keys.specs.declared.Key.{Key}
+use Rattle.keys.specs.declared.Key.the-variants.{Reg, Phandle, DeviceType}
+use Rattle.keys.specs.Key.{keyName}
+use Rattle.keys.specs.Index.{keyAt}
 use Rattle.cpus.specs.declared.Cell.{Cell}
 use Rattle.cpus.specs.declared.Cell.the-variants.{Is, Not}
 use Rattle.cpus.specs.declared.Mpidr as declared-mpidr
 use Rattle.cpus.specs.declared.Mpidr.the-variants as mpidr
-use Rattle.cpus.specs.declared.CpuScan.{CpuScan}
-use Rattle.cpus.specs.declared.PhandleScan.{PhandleScan}
 use Rattle.cpus.specs.declared.Wanted.{Wanted}
 use Rattle.cpus.specs.declared.Wanted.the-variants as wanted
 use Rattle.cpus.specs.declared.Reading.{Reading}
-use Rattle.cpus.specs.declared.Gathered.{Gathered}
-use Rattle.cpus.specs.Words.{cpuString, deviceTypeKey}
-use Rattle.cpus.specs.Cell.{hasValue, mpidrOf}
-use Rattle.cpus.specs.Check.{phandleOf}
+use Rattle.cpus.specs.Words.{cpuString}
+use Rattle.cpus.specs.Cell.{cellIn, valueIn, mpidrIn}
+use Rattle.cpus.specs.Check.{phandleIn}
 
 abbrev pub reading : ℕ → ℕ → Reading
 reading number value = record { number = number; value = value }
@@ -32,11 +36,18 @@ abbrev pub phandleReading : Cell → Reading
 phandleReading (Is h) = reading 0 h
 phandleReading Not = reading 17 0
 
--- what cpu record i alone breaks, 0 where nothing, and its number
+-- what a cpu record alone breaks, 0 where nothing, and its number, from where its properties stand
+unfoldable pub readingFrom : Wanted → List ℕ → List ℕ → (Key → Lookup) → Reading
+readingFrom (wanted.Mpidrs cells) props pool at =
+    cond (valueIn props pool cpuString (at DeviceType)) (mpidrReading (mpidrIn props pool cells (at Reg))) (reading 11 0)
+readingFrom wanted.Phandles props pool at = phandleReading (phandleIn (cellIn props pool (at Phandle)))
+
+-- record i, by a table of keys; and looked up in the property table
+abbrev pub readingAt : Wanted → List ℕ → List ℕ → List ℕ → ℕ → Reading
+readingAt w props pool keys i = readingFrom w props pool (keyAt keys i)
+
 unfoldable pub readingOf : Wanted → List ℕ → List ℕ → ℕ → Reading
-readingOf (wanted.Mpidrs cells) props pool i =
-    cond (hasValue props pool i deviceTypeKey cpuString) (mpidrReading (mpidrOf props pool cells i)) (reading 11 0)
-readingOf wanted.Phandles props pool i = phandleReading (phandleOf props pool i)
+readingOf w props pool i = readingFrom w props pool (λ key. lookup props pool i (keyName key))
 
 -- the rule that a repeated number breaks
 abbrev pub repeatRule : Wanted → ℕ
@@ -47,32 +58,29 @@ repeatRule wanted.Phandles = 17
 abbrev pub unlessSeen : ℕ → Bool → Reading → Reading
 unlessSeen rule seen r = cond (eqb (r .number) 0) (cond seen (reading rule (r .value)) r) r
 
-abbrev pub refused : ℕ → ℕ → Gathered
-refused number place = record { number = number; place = place; count = 0; records = padded 256 []; values = padded 256 [] }
+-- the records of a list, each with a reading
+module _ (r : ℕ → Reading) (rule : ℕ) (records : List ℕ) where
+  -- what the record at index k breaks, 0 where nothing
+  unfoldable pub listedFault : ℕ → ℕ
+  listedFault k =
+      let q = r (getD records k 0) in
+      unlessSeen rule (isAmong (map (λ i. r i .value) (take k records)) (q .value)) q .number
 
--- the places that pass p, each with a reading
-module _ (p : ℕ → Bool) (r : ℕ → Reading) (rule : ℕ) where
-  -- what place i breaks, 0 where nothing
-  unfoldable pub gatherFault : ℕ → ℕ
-  gatherFault i = cond (p i) (unlessSeen rule (anyBelow (λ j. cond (p j) (eqb (r j .value) (r i .value)) false) i) (r i) .number) 0
+  -- the first index at which a rule is broken, and the same told of the record
+  abbrev pub firstIndex : Fault
+  firstIndex = firstFault listedFault (length records)
 
-  -- the places below n and their numbers, or the first fault
-  unfoldable pub gathered : ℕ → Gathered
-  gathered n =
-      let fault = firstFault gatherFault n in
-      cond (eqb (fault .number) 0)
-      (record {
-        number = 0;
-        place = 0;
-        count = countBelow p n;
-        records = padded 256 (listBelow p n);
-        values = padded 256 (map (λ i. r i .value) (listBelow p n));
-      })
-      (refused (fault .number) (fault .place))
+  unfoldable pub firstRecord : Fault
+  firstRecord = toldOf records firstIndex
 
--- what was gathered, as MPIDRs and as phandles
-abbrev pub cpusIn : Gathered → CpuScan
-cpusIn g = record { number = g .number; place = g .place; cpus = record { count = g .count; records = g .records; mpidrs = g .values } }
+  -- a buffer after the gathering: the numbers of the records passed, over what it held
+  unfoldable pub numbersOver : List ℕ → List ℕ
+  numbersOver before = over (map (λ i. r i .value) (take (passedOf records firstIndex) records)) before
 
-abbrev pub phandlesIn : Gathered → PhandleScan
-phandlesIn g = record { number = g .number; place = g .place; values = g .values }
+  -- the fault where the buffer has so much room: 10 where the records are more
+  unfoldable pub numbersFault : ℕ → Fault
+  numbersFault room = cond (ltb room (length records)) (told 10 0) firstRecord
+
+  -- the buffer afterwards: as it was where the records are more
+  unfoldable pub numbersAfter : List ℕ → List ℕ
+  numbersAfter before = cond (ltb (length before) (length records)) before (numbersOver before)

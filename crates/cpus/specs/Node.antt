@@ -6,7 +6,8 @@ use Prim.Native.Nat.{ℕ, _+_, _*_, _^_, _<_}
 use Rattle.tables.specs.Board.{Board, nodeName}
 use Rattle.tables.specs.Tree.{Child}
 use Rattle.tables.specs.Property.{HasValue, cellBytes}
-use Rattle.cpus.specs.Words.{cpuWord, cpuUnit, addressCellsKey, sizeCellsKey, regKey, phandleKey}
+use Rattle.keys.specs.Key.{regKey, phandleKey}
+use Rattle.cpus.specs.Words.{cpuWord, cpuUnit, addressCellsKey, sizeCellsKey}
 
 -- a name that begins with given bytes
 pub record Begins (name start : List ℕ) : Type 0 where

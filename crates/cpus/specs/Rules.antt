@@ -6,7 +6,8 @@ use lib.ListN.{length}
 use Rattle.laws.specs.Listing.{Listing}
 use Rattle.tables.specs.Board.{Board, nodeName}
 use Rattle.tables.specs.Property.{HasValue}
-use Rattle.cpus.specs.Words.{cpusWord, cpuString, deviceTypeKey, regKey}
+use Rattle.keys.specs.Key.{regKey, deviceTypeKey}
+use Rattle.cpus.specs.Words.{cpusWord, cpuString}
 use Rattle.cpus.specs.Node.{Cpu, AddressCells, SizeCells, Reg, Phandle}
 
 abbrev pub maxCpus : ℕ

@@ -25,15 +25,3 @@ addressCellsKey = 35 ∷ 97 ∷ 100 ∷ 100 ∷ 114 ∷ 101 ∷ 115 ∷ 115 ∷ 
 -- `#size-cells`
 abbrev pub sizeCellsKey : List ℕ
 sizeCellsKey = 35 ∷ 115 ∷ 105 ∷ 122 ∷ 101 ∷ 45 ∷ 99 ∷ 101 ∷ 108 ∷ 108 ∷ 115 ∷ []
-
--- `device_type`
-abbrev pub deviceTypeKey : List ℕ
-deviceTypeKey = 100 ∷ 101 ∷ 118 ∷ 105 ∷ 99 ∷ 101 ∷ 95 ∷ 116 ∷ 121 ∷ 112 ∷ 101 ∷ []
-
--- `reg`
-abbrev pub regKey : List ℕ
-regKey = 114 ∷ 101 ∷ 103 ∷ []
-
--- `phandle`
-abbrev pub phandleKey : List ℕ
-phandleKey = 112 ∷ 104 ∷ 97 ∷ 110 ∷ 100 ∷ 108 ∷ 101 ∷ []

@@ -1,21 +1,17 @@
-// One pass over the records that gathers a number of each cpu record: rules 11 to 13, or rule 17.
-use crate::Gathered;
+// One pass over a list of cpu records that gathers a number of each: rules 11 to 13, or rule 17.
 use crate::Reading;
 use crate::Wanted;
-use crate::limits::MAX_CPUS;
-use crate::node::is_cpu;
 use crate::read::read_record;
+use keys::KEY_WORDS;
 use laws::BAD_PHANDLE;
+use laws::Fault;
 use laws::REPEATED_REG;
 use laws::is_among;
-use tables::index_properties;
-use tables::part_start;
 ghost use mathlib.Core.Path.{_≡_};
 ghost use Prim.Native.Nat.{_≤_};
-ghost use Rattle.laws.specs.Search.{countBelow, isAmong};
-ghost use Rattle.tables.specs.Board.{nodeCount};
-ghost use Rattle.cpus.specs.Check.{isCpu};
-ghost use Rattle.cpus.specs.Gather.{readingOf, repeatRule, unlessSeen, refused, gathered};
+ghost use lib.ListN.{length};
+ghost use Rattle.laws.specs.Search.{isAmong};
+ghost use Rattle.cpus.specs.Gather.{readingAt, repeatRule, unlessSeen, firstRecord, numbersOver};
 
 // The rule that a repeated number breaks.
 fn repeat_rule(wanted: Wanted) -> u32
@@ -28,12 +24,19 @@ fn repeat_rule(wanted: Wanted) -> u32
 }
 
 // What cpu record i breaks, 0 where nothing, and its number, given those of the earlier cpu records.
-fn next_reading(wanted: Wanted, props: &[u32], pool: &[u8], earlier: &[u64], i: usize) -> Reading
+fn next_reading(
+    wanted: Wanted,
+    props: &[u32],
+    pool: &[u8],
+    keys: &[u16; KEY_WORDS],
+    earlier: &[u64],
+    i: usize,
+) -> Reading
     ensures { λ r.
-        let first = readingOf wanted (now (props .entry)) (now (pool .entry)) i in
+        let first = readingAt wanted (now (props .entry)) (now (pool .entry)) (now (keys .entry)) i in
         ⌜ r ≡ unlessSeen (repeatRule wanted) (isAmong (now (earlier .entry)) (first .value)) first ⌝ }
 {
-    let first = read_record(wanted, props, pool, i);
+    let first = read_record(wanted, props, pool, keys, i);
     if first.number != 0 {
         return first;
     }
@@ -46,53 +49,38 @@ fn next_reading(wanted: Wanted, props: &[u32], pool: &[u8], earlier: &[u64], i: 
     first
 }
 
-// Nothing gathered: the number and the place of what is broken.
-pub fn refuse(number: u32, place: usize) -> Gathered
-    ensures { λ r. ⌜ r ≡ refused number place ⌝ }
+// The numbers of cpu records, up to the first that breaks a rule.
+pub fn gather(
+    wanted: Wanted,
+    props: &[u32],
+    pool: &[u8],
+    keys: &[u16; KEY_WORDS],
+    records: &[usize],
+    values: &mut [u64],
+) -> Fault
+    requires { ⌜ length (now records) ≤ length (now values) ⌝ }
+    ensures fault { λ r.
+        let read = readingAt wanted (now (props .entry)) (now (pool .entry)) (now (keys .entry)) in
+        ⌜ r ≡ firstRecord read (repeatRule wanted) (now (records .entry)) ⌝ }
+    ensures values { λ _.
+        let read = readingAt wanted (now (props .entry)) (now (pool .entry)) (now (keys .entry)) in
+        ⌜ now (values .exit) ≡ numbersOver read (repeatRule wanted) (now (records .entry)) (now (values .entry)) ⌝ }
 {
-    Gathered {
-        number,
-        place,
-        count: 0,
-        records: [0usize; MAX_CPUS],
-        values: [0u64; MAX_CPUS],
-    }
-}
-
-// The cpu records and their numbers, or the first fault.
-pub fn gather(wanted: Wanted, nodes: &[u32], props: &[u32], pool: &[u8]) -> Gathered
-    requires { ⌜ countBelow (isCpu (now nodes) (now pool)) (nodeCount (now nodes)) ≤ 256 ⌝ }
-    ensures { λ r.
-        let table = now (nodes .entry) in
-        let bytes = now (pool .entry) in
-        ⌜ r ≡ gathered (isCpu table bytes) (readingOf wanted (now (props .entry)) bytes) (repeatRule wanted) (nodeCount table) ⌝ }
-{
-    let n = nodes.len() / 3;
-    let index = index_properties(props);
-    let mut records = [0usize; MAX_CPUS];
-    let mut values = [0u64; MAX_CPUS];
-    let mut count: usize = 0;
-    let mut i: usize = 0;
-    while i < n {
-        if !is_cpu(nodes, pool, i) {
-            i += 1;
-            continue;
-        }
-        let start = part_start(&index.starts, props.len(), i);
-        let reading = next_reading(wanted, &props[start..], pool, &values[..count], i);
+    let mut k: usize = 0;
+    while k < records.len() {
+        let i = records[k];
+        let reading = next_reading(wanted, props, pool, keys, &values[..k], i);
         if reading.number != 0 {
-            return refuse(reading.number, i);
+            return Fault {
+                number: reading.number,
+                place: i,
+            };
         }
-        records[count] = i;
-        values[count] = reading.value;
-        count += 1;
-        i += 1;
+        values[k] = reading.value;
+        k += 1;
     }
-    Gathered {
+    Fault {
         number: 0,
         place: 0,
-        count,
-        records,
-        values,
     }
 }

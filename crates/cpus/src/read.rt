@@ -3,15 +3,21 @@ use crate::Cell;
 use crate::Mpidr;
 use crate::Reading;
 use crate::Wanted;
-use crate::value::cell_of;
-use crate::value::has_value;
-use crate::value::mpidr_of;
+use crate::value::cell_in;
+use crate::value::mpidr_in;
+use keys::KEY_WORDS;
+use keys::Key;
+use keys::find_key;
 use laws::BAD_DEVICE_TYPE;
 use laws::BAD_PHANDLE;
 use laws::BAD_REG;
 ghost use mathlib.Core.Path.{_≡_};
+ghost use Rattle.cpus.specs.Cell.{isCpuString};
 ghost use Rattle.cpus.specs.Check.{phandleIn};
-ghost use Rattle.cpus.specs.Gather.{mpidrReading, phandleReading, readingOf};
+ghost use Rattle.cpus.specs.Gather.{mpidrReading, phandleReading, readingAt};
+
+// `cpu` and one zero byte as a cell.
+const CPU_STRING: u32 = 0x63707500;
 
 // 12 where an MPIDR is not there, and its number.
 fn mpidr_reading(mpidr: Mpidr) -> Reading
@@ -61,15 +67,31 @@ fn phandle_reading(phandle: Cell) -> Reading
     }
 }
 
+// Whether a cell is `cpu` and one zero byte.
+fn is_cpu_string(cell: Cell) -> bool
+    ensures { λ r. ⌜ r ≡ isCpuString cell ⌝ }
+{
+    let Cell::Is(w) = cell else {
+        return false;
+    };
+    w == CPU_STRING
+}
+
 // What a cpu record alone breaks, 0 where nothing, and its number.
-pub fn read_record(wanted: Wanted, props: &[u32], pool: &[u8], i: usize) -> Reading
-    ensures { λ r. ⌜ r ≡ readingOf wanted (now (props .entry)) (now (pool .entry)) i ⌝ }
+pub fn read_record(
+    wanted: Wanted,
+    props: &[u32],
+    pool: &[u8],
+    keys: &[u16; KEY_WORDS],
+    i: usize,
+) -> Reading
+    ensures { λ r. ⌜ r ≡ readingAt wanted (now (props .entry)) (now (pool .entry)) (now (keys .entry)) i ⌝ }
 {
     let Wanted::Mpidrs(cells) = wanted else {
-        return phandle_reading(phandle_in(cell_of(props, pool, i, b"phandle")));
+        return phandle_reading(phandle_in(cell_in(props, pool, find_key(keys, i, Key::Phandle))));
     };
-    if has_value(props, pool, i, b"device_type", b"cpu\0") {
-        return mpidr_reading(mpidr_of(props, pool, cells, i));
+    if is_cpu_string(cell_in(props, pool, find_key(keys, i, Key::DeviceType))) {
+        return mpidr_reading(mpidr_in(props, pool, cells, find_key(keys, i, Key::Reg)));
     }
     Reading {
         number: BAD_DEVICE_TYPE,

@@ -4,14 +4,13 @@ use crate::limits::MAX_CPUS;
 use crate::node::is_cpu;
 use crate::value::cell_of;
 use laws::BAD_CPU_COUNT;
-use laws::BAD_CPUS_NODE;
 use tables::name_is;
 ghost use mathlib.Core.Path.{_≡_};
-ghost use Rattle.laws.specs.Search.{countBelow};
+ghost use lib.ListN.{set};
+ghost use Rattle.laws.specs.Search.{countBelow, listBelow};
+ghost use Rattle.laws.specs.Listed.{over};
 ghost use Rattle.tables.specs.Board.{board, nodeCount};
-ghost use Rattle.cpus.specs.Cell.{cellOf};
-ghost use Rattle.cpus.specs.Words.{addressCellsKey};
-ghost use Rattle.cpus.specs.Check.{isCpu, cellsFor, isZeroCell, rootFault, countFault};
+ghost use Rattle.cpus.specs.Check.{isCpu, cellsFor, isZeroCell, soundCells, countFault};
 
 // The number of address cells that a cell gives a board of a width: 1 or 2, 0 where it is not allowed.
 fn cells_for(width: u32, cell: Cell) -> usize
@@ -32,13 +31,6 @@ fn cells_for(width: u32, cell: Cell) -> usize
     2
 }
 
-// The number of address cells of a board of a width.
-pub fn address_cells(width: u32, props: &[u32], pool: &[u8]) -> usize
-    ensures { λ r. ⌜ r ≡ cellsFor width (cellOf (now (props .entry)) (now (pool .entry)) 0 addressCellsKey) ⌝ }
-{
-    cells_for(width, cell_of(props, pool, 0, b"#address-cells"))
-}
-
 // Whether a cell is there and 0.
 fn is_zero_cell(cell: Cell) -> bool
     ensures { λ r. ⌜ r ≡ isZeroCell cell ⌝ }
@@ -49,35 +41,47 @@ fn is_zero_cell(cell: Cell) -> bool
     n == 0
 }
 
-// 9 where rule 9 is broken, or 0.
-pub fn root_fault(width: u32, nodes: &[u32], props: &[u32], pool: &[u8]) -> u32
-    ensures { λ r. ⌜ r ≡ rootFault (board width (now (nodes .entry)) (now (props .entry)) (now (pool .entry))) ⌝ }
+// The number of address cells, 1 or 2; 0 where rule 9 is broken.
+pub fn read_cells(width: u32, nodes: &[u32], props: &[u32], pool: &[u8]) -> usize
+    ensures { λ r. ⌜ r ≡ soundCells (board width (now (nodes .entry)) (now (props .entry)) (now (pool .entry))) ⌝ }
 {
     if !name_is(nodes, pool, 0, b"cpus") {
-        return BAD_CPUS_NODE;
-    }
-    if address_cells(width, props, pool) == 0 {
-        return BAD_CPUS_NODE;
-    }
-    if is_zero_cell(cell_of(props, pool, 0, b"#size-cells")) {
         return 0;
     }
-    BAD_CPUS_NODE
+    if is_zero_cell(cell_of(props, pool, 0, b"#size-cells")) {
+        return cells_for(width, cell_of(props, pool, 0, b"#address-cells"));
+    }
+    0
 }
 
-// The number of cpu records.
-pub fn count_cpus(nodes: &[u32], pool: &[u8]) -> usize
-    ensures { λ r.
+// Writes a record's number at index k, if there is room.
+fn put_record(records: &mut [usize], k: usize, i: usize)
+    ensures { λ _. ⌜ now (records .exit) ≡ set (now (records .entry)) k i ⌝ }
+{
+    if k < records.len() {
+        records[k] = i;
+    }
+}
+
+// Lists the cpu records, as many as there is room for, and counts them.
+pub fn list_cpus(nodes: &[u32], pool: &[u8], records: &mut [usize; MAX_CPUS]) -> usize
+    ensures count { λ r.
         let table = now (nodes .entry) in
         ⌜ r ≡ countBelow (isCpu table (now (pool .entry))) (nodeCount table) ⌝ }
+    ensures records { λ _.
+        let table = now (nodes .entry) in
+        ⌜ now (records .exit) ≡ over (listBelow (isCpu table (now (pool .entry))) (nodeCount table)) (now (records .entry)) ⌝ }
 {
     let n = nodes.len() / 3;
     let mut count: usize = 0;
     let mut i: usize = 0;
     while i < n {
-        if is_cpu(nodes, pool, i) {
-            count += 1;
+        if !is_cpu(nodes, pool, i) {
+            i += 1;
+            continue;
         }
+        put_record(records, count, i);
+        count += 1;
         i += 1;
     }
     count

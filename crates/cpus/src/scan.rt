@@ -1,74 +1,72 @@
-// The cpu records with their MPIDRs, and their phandles.
-use crate::CpuScan;
-use crate::Cpus;
-use crate::Gathered;
-use crate::PhandleScan;
+// The MPIDRs and the phandles of cpu records.
 use crate::Wanted;
 use crate::gather::gather;
-use crate::gather::refuse;
-use crate::limits::MAX_CPUS;
-use crate::root::address_cells;
-use crate::root::count_cpus;
-use crate::root::count_fault;
-use crate::root::root_fault;
+use keys::KEY_WORDS;
 use laws::BAD_CPU_COUNT;
+use laws::Fault;
 ghost use mathlib.Core.Path.{_≡_};
-ghost use Rattle.tables.specs.Board.{board};
-ghost use Rattle.cpus.specs.Check.{cpuScan, phandleScan};
-ghost use Rattle.cpus.specs.Gather.{cpusIn, phandlesIn};
+ghost use lib.ListN.{length};
+ghost use Rattle.cpus.specs.declared.Wanted.the-variants.{Mpidrs, Phandles};
+ghost use Rattle.cpus.specs.Gather.{readingAt, repeatRule, numbersFault, numbersAfter};
 
-// What was gathered, as the cpu records with their MPIDRs.
-fn cpus_in(found: Gathered) -> CpuScan
-    ensures { λ r. ⌜ r ≡ cpusIn found ⌝ }
+// The numbers of cpu records, or the first rule that one of them breaks; 10 where there is no room for them.
+fn read_numbers(
+    wanted: Wanted,
+    props: &[u32],
+    pool: &[u8],
+    keys: &[u16; KEY_WORDS],
+    records: &[usize],
+    values: &mut [u64],
+) -> Fault
+    ensures fault { λ r.
+        let read = readingAt wanted (now (props .entry)) (now (pool .entry)) (now (keys .entry)) in
+        ⌜ r ≡ numbersFault read (repeatRule wanted) (now (records .entry)) (length (now (values .entry))) ⌝ }
+    ensures values { λ _.
+        let read = readingAt wanted (now (props .entry)) (now (pool .entry)) (now (keys .entry)) in
+        ⌜ now (values .exit) ≡ numbersAfter read (repeatRule wanted) (now (records .entry)) (now (values .entry)) ⌝ }
 {
-    let records = found.records;
-    let mpidrs = found.values;
-    let cpus = Cpus {
-        count: found.count,
-        records,
-        mpidrs,
-    };
-    CpuScan {
-        number: found.number,
-        place: found.place,
-        cpus,
+    if values.len() < records.len() {
+        return Fault {
+            number: BAD_CPU_COUNT,
+            place: 0,
+        };
     }
+    gather(wanted, props, pool, keys, records, values)
 }
 
-// What was gathered, as the phandles of the cpu records.
-fn phandles_in(found: Gathered) -> PhandleScan
-    ensures { λ r. ⌜ r ≡ phandlesIn found ⌝ }
+// The MPIDRs of cpu records, or the first of rules 11 to 13 that one of them breaks; 10 where there is no room for them.
+pub fn read_mpidrs(
+    cells: usize,
+    props: &[u32],
+    pool: &[u8],
+    keys: &[u16; KEY_WORDS],
+    records: &[usize],
+    values: &mut [u64],
+) -> Fault
+    ensures fault { λ r.
+        let read = readingAt (Mpidrs cells) (now (props .entry)) (now (pool .entry)) (now (keys .entry)) in
+        ⌜ r ≡ numbersFault read 13 (now (records .entry)) (length (now (values .entry))) ⌝ }
+    ensures values { λ _.
+        let read = readingAt (Mpidrs cells) (now (props .entry)) (now (pool .entry)) (now (keys .entry)) in
+        ⌜ now (values .exit) ≡ numbersAfter read 13 (now (records .entry)) (now (values .entry)) ⌝ }
 {
-    let values = found.values;
-    PhandleScan {
-        number: found.number,
-        place: found.place,
-        values,
-    }
+    read_numbers(Wanted::Mpidrs(cells), props, pool, keys, records, values)
 }
 
-// The cpu records, or the first of rules 9 to 13 that is broken.
-pub fn read_cpus(width: u32, nodes: &[u32], props: &[u32], pool: &[u8]) -> CpuScan
-    ensures { λ r. ⌜ r ≡ cpuScan (board width (now (nodes .entry)) (now (props .entry)) (now (pool .entry))) ⌝ }
+// The phandles of cpu records, or the first that breaks rule 17; 10 where there is no room for them.
+pub fn read_phandles(
+    props: &[u32],
+    pool: &[u8],
+    keys: &[u16; KEY_WORDS],
+    records: &[usize],
+    values: &mut [u64],
+) -> Fault
+    ensures fault { λ r.
+        let read = readingAt Phandles (now (props .entry)) (now (pool .entry)) (now (keys .entry)) in
+        ⌜ r ≡ numbersFault read 17 (now (records .entry)) (length (now (values .entry))) ⌝ }
+    ensures values { λ _.
+        let read = readingAt Phandles (now (props .entry)) (now (pool .entry)) (now (keys .entry)) in
+        ⌜ now (values .exit) ≡ numbersAfter read 17 (now (records .entry)) (now (values .entry)) ⌝ }
 {
-    let number = root_fault(width, nodes, props, pool);
-    if number != 0 {
-        return cpus_in(refuse(number, 0));
-    }
-    let number = count_fault(count_cpus(nodes, pool));
-    if number != 0 {
-        return cpus_in(refuse(number, 0));
-    }
-    let wanted = Wanted::Mpidrs(address_cells(width, props, pool));
-    cpus_in(gather(wanted, nodes, props, pool))
-}
-
-// The phandles of the cpu records, or the first cpu record that breaks rule 17; 10 where there are too many cpu records.
-pub fn read_phandles(nodes: &[u32], props: &[u32], pool: &[u8]) -> PhandleScan
-    ensures { λ r. ⌜ r ≡ phandleScan (now (nodes .entry)) (now (props .entry)) (now (pool .entry)) ⌝ }
-{
-    if MAX_CPUS < count_cpus(nodes, pool) {
-        return phandles_in(refuse(BAD_CPU_COUNT, 0));
-    }
-    phandles_in(gather(Wanted::Phandles, nodes, props, pool))
+    read_numbers(Wanted::Phandles, props, pool, keys, records, values)
 }

@@ -1,4 +1,4 @@
-// A property's value as cells or as given bytes.
+// A property's value as cells.
 use crate::Cell;
 use crate::Mpidr;
 use affinity::is_affine;
@@ -6,11 +6,10 @@ use tables::Lookup;
 use tables::cell_at;
 use tables::find_property;
 use tables::prop_word;
-use tables::value_is;
 ghost use mathlib.Core.Path.{_≡_};
 ghost use Prim.Native.Nat.{_+_, _*_, _≤_};
 ghost use lib.ListN.{length};
-ghost use Rattle.cpus.specs.Cell.{valueSized, cellIn, cellOf, hasValue, cellsAt, affineOnly, mpidrIn, mpidrOf};
+ghost use Rattle.cpus.specs.Cell.{valueSized, cellIn, cellOf, cellsAt, affineOnly, mpidrIn};
 
 // Whether property k's value lies inside the pool and has so many cells.
 fn has_cells(props: &[u32], pool: &[u8], cells: usize, k: usize) -> bool
@@ -50,17 +49,6 @@ pub fn cell_of(props: &[u32], pool: &[u8], node: usize, key: &[u8]) -> Cell
     cell_in(props, pool, find_property(props, pool, node, key))
 }
 
-// Whether a record has a property `key` with given bytes.
-pub fn has_value(props: &[u32], pool: &[u8], node: usize, key: &[u8], bytes: &[u8]) -> bool
-    ensures { λ r. ⌜ r ≡ hasValue (now (props .entry)) (now (pool .entry)) node (now (key .entry)) (now (bytes .entry)) ⌝ }
-{
-    let found = find_property(props, pool, node, key);
-    let Lookup::At(k) = found else {
-        return false;
-    };
-    value_is(props, pool, k, bytes)
-}
-
 // The MPIDR of the cells from `at` on: the lower cell alone, or the upper and the lower.
 fn cells_at(pool: &[u8], cells: usize, at: usize) -> u64
     requires { ⌜ at + 4 * cells ≤ length (now pool) ⌝ }
@@ -84,7 +72,7 @@ fn affine_only(mpidr: u64) -> Mpidr
 }
 
 // An MPIDR that is the value of a property, if it was found, has four bytes for each address cell and affinity bits alone.
-fn mpidr_in(props: &[u32], pool: &[u8], cells: usize, found: Lookup) -> Mpidr
+pub fn mpidr_in(props: &[u32], pool: &[u8], cells: usize, found: Lookup) -> Mpidr
     ensures { λ r. ⌜ r ≡ mpidrIn (now (props .entry)) (now (pool .entry)) cells found ⌝ }
 {
     let Lookup::At(k) = found else {
@@ -94,11 +82,4 @@ fn mpidr_in(props: &[u32], pool: &[u8], cells: usize, found: Lookup) -> Mpidr
         return affine_only(cells_at(pool, cells, prop_word(props, k, 3)));
     }
     Mpidr::Not
-}
-
-// A record's `reg` as an MPIDR, if it has four bytes for each address cell and affinity bits alone.
-pub fn mpidr_of(props: &[u32], pool: &[u8], cells: usize, node: usize) -> Mpidr
-    ensures { λ r. ⌜ r ≡ mpidrOf (now (props .entry)) (now (pool .entry)) cells node ⌝ }
-{
-    mpidr_in(props, pool, cells, find_property(props, pool, node, b"reg"))
 }

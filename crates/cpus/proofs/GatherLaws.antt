@@ -1,0 +1,95 @@
+-- The pass that gathers the numbers of the records of a list. Assumes nothing.
+use mathlib.Core.Path.{_≡_, refl, sym, ap, ap₂, _∙_}
+use mathlib.Core.Bool.{Bool, true, false, cond}
+use mathlib.Core.List.{List, [], _∷_, _++_, map, map-append}
+use Prim.Native.Nat.{ℕ, _+_, _≤_, _<_}
+use native.Mathlib.Numerals.{add-one}
+use native.Mathlib.Omega.{arith}
+use lib.Dec.{eqb}
+use lib.ListN.{length, getD, take, set, length-map}
+use lib.Seq.{length-take-le, take-suc}
+use borrow.Author.Tests.{ne-eqb}
+use Rattle.laws.specs.declared.Fault.{Fault}
+use Rattle.laws.specs.Fault.{clear, firstFault}
+use Rattle.laws.specs.Search.{isAmong}
+use Rattle.laws.specs.Listed.{over, toldOf, passedOf}
+use Rattle.laws.proofs.FaultLaws.{told-at, clear-more, at-fault, at-end}
+use Rattle.laws.proofs.ListedLaws.{over-none, over-length, over-front, over-push}
+use Rattle.cpus.specs.declared.Reading.{Reading}
+use Rattle.cpus.specs.Gather.{unlessSeen, listedFault, firstIndex, firstRecord, numbersOver}
+
+-- a reading keeps its number where that is refused
+unless-value : (rule : ℕ) (seen : Bool) (q : Reading) → unlessSeen rule seen q .value ≡ q .value
+unless-value rule seen q = go (eqb (q .number) 0) seen
+  where
+    go : (a b : Bool) → cond a (cond b (record { number = rule; value = q .value }) q) q .value ≡ q .value
+    go true true = refl
+    go true false = refl
+    go false b = refl
+
+module _ (r : ℕ → Reading) (rule : ℕ) (records before : List ℕ) where
+  -- the numbers of the first k records
+  abbrev numbers : ℕ → List ℕ
+  numbers k = map (λ i. r i .value) (take k records)
+
+  numbers-length : (k : ℕ) → k ≤ length records → length (numbers k) ≡ k
+  numbers-length k le = length-map (take k records) (λ i. r i .value) ∙ length-take-le k records le
+
+  numbers-more : (k : ℕ) → k < length records → numbers k ++ (r (getD records k 0) .value ∷ []) ≡ numbers (k + 1)
+  numbers-more k lt =
+      sym (ap (λ (n : ℕ). numbers n) (add-one k)
+      ∙ ap (map (λ i. r i .value)) (take-suc records k 0 lt)
+      ∙ map-append (λ i. r i .value) (take k records) (getD records k 0 ∷ []))
+
+  -- what holds before the record at index k
+  pub record Pass (k : ℕ) (values : List ℕ) : Type 0 where
+    pub none : firstFault (listedFault r rule records) k ≡ clear
+    pub held : values ≡ over (numbers k) before
+
+  pub pass-start : Pass 0 before
+  unfolding firstFault
+  pass-start = record { none = refl; held = sym (over-none before) }
+
+  pub pass-length : {k : ℕ} {values : List ℕ} → Pass k values → length values ≡ length before
+  pass-length h = ap length (h .held) ∙ over-length _ before
+
+  -- what the end of the pass tells
+  abbrev Told : Fault → List ℕ → Type 0
+  Told fault values = (fault ≡ firstRecord r rule records) × (values ≡ numbersOver r rule records before)
+
+  told-index : {fault : Fault} {k : ℕ} {values : List ℕ} → fault ≡ firstIndex r rule records → passedOf records fault ≡ k → Pass k values → Told (toldOf records fault) values
+  unfolding firstRecord numbersOver
+  told-index e p h = (ap (toldOf records) e, h .held ∙ ap (λ (n : ℕ). over (numbers n) before) (sym p ∙ ap (passedOf records) e))
+
+  -- the record at index k, and the reading x that is made of the numbers gathered
+  module _ (k : ℕ) {values : List ℕ} {x : Reading}
+      (h : Pass k values) (inside : k < length records) (room : length records ≤ length before)
+      (made : x ≡ unlessSeen rule (isAmong (take k values) (r (getD records k 0) .value)) (r (getD records k 0))) where
+    front : take k values ≡ numbers k
+    front =
+        let long = numbers-length k (omega arith) in
+        ap (take k) (h .held) ∙ ap (λ (n : ℕ). take n (over (numbers k) before)) (sym long) ∙ over-front (numbers k) before (omega arith)
+
+    pass-fault : x .number ≡ listedFault r rule records k
+    unfolding listedFault
+    pass-fault = ap (λ (q : Reading). q .number) made ∙ rw front
+
+    pub pass-next : x .number ≡ 0 → Pass (k + 1) (set values k (x .value))
+    pass-next z =
+        let value : x .value ≡ r (getD records k 0) .value =
+        ap (λ (q : Reading). q .value) made ∙ unless-value rule (isAmong (take k values) (r (getD records k 0) .value)) (r (getD records k 0)) in
+        record {
+          none = clear-more _ k (h .none) pass-fault z;
+          held =
+              ap₂ (λ (l : List ℕ) (v : ℕ). set l k v) (h .held) value
+              ∙ over-push (numbers k) before _ k (numbers-length k (omega arith)) (omega arith)
+              ∙ ap (λ (l : List ℕ). over l before) (numbers-more k inside);
+        }
+
+    pub pass-told : (x .number ≡ 0 → ⊥) → Told (record { number = x .number; place = getD records k 0 }) values
+    pass-told ne =
+        rw (← told-at (x .number) (getD records k 0) ne)
+        (told-index (at-fault (listedFault r rule records) k (length records) inside (h .none) pass-fault ne) (rw (ne-eqb (x .number) 0 ne)) h)
+
+  pub pass-end : (k : ℕ) {values : List ℕ} → Pass k values → k ≡ length records → Told clear values
+  pass-end k h e = told-index (at-end (listedFault r rule records) k (length records) e (h .none)) (sym e) h
