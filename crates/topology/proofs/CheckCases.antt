@@ -23,7 +23,7 @@ module _ (t : Tree) (i : ℕ) where
   leafName = isLeafName (t .nodes) i (topologyName (t .nodes) (t .pool) i)
 
   abbrev pub named : ℕ
-  named = leafCpu (t .props) (t .pool) (t .phandles) i
+  named = leafCpu (t .cells) (t .phandles) i
 
   abbrev pub strayNumber : ℕ
   strayNumber = cond (eqb (kindNumber (topologyName (t .nodes) (t .pool) i)) 0) 0 18

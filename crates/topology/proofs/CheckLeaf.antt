@@ -16,7 +16,7 @@ use Rattle.cpus.specs.Check.{cpuList}
 use Rattle.topology.specs.declared.RecordCheck.{RecordCheck}
 use Rattle.topology.specs.Map.{Map, InMap, Leaf, Names}
 use Rattle.topology.specs.Path.{topologyName}
-use Rattle.topology.specs.Check.{hasChild, isLeafName}
+use Rattle.topology.specs.Check.{hasChild, cpuCells, isLeafName}
 use Rattle.topology.specs.Scan.{Tree, tree, check, isLeaf, cpuOf}
 use Rattle.topology.proofs.ChildMeans.{childless-test}
 use Rattle.topology.proofs.NameFacts.{Says, topology-is, topology-says}
@@ -56,7 +56,7 @@ module _ {b : Board} (well : WellFormed b) (i : ℕ) where
 
 -- the tables with the map's record m and the cpu records' phandles
 abbrev pub treeAt : Board → ℕ → Tree
-treeAt b m = tree (b .nodes) (b .props) (b .pool) m (phandlesOf b)
+treeAt b m = tree (b .nodes) (cpuCells (b .props) (b .pool)) (b .pool) m (phandlesOf b)
 
 -- a record under the map
 module _ {b : Board} {m : ℕ} (is-map : Map b m) (i : ℕ) where

@@ -5,23 +5,24 @@ use mathlib.Core.List.{List}
 use Prim.Native.Nat.{ℕ, _+_, _-_, _≤_, _<_}
 use native.Mathlib.Omega.{arith}
 use lib.Dec.{eqb, ltb}
-use lib.ListN.{length}
+use lib.ListN.{length, set}
 use borrow.Author.Tests.{lt-ltb, le-ltb, le-leb, lt-leb, eq-eqb, ne-eqb}
 use Rattle.laws.specs.declared.Fault.{Fault}
 use Rattle.laws.specs.Fault.{firstFault, orNumber}
 use Rattle.laws.specs.Search.{countBelow}
 use Rattle.names.specs.declared.TopologyName.{TopologyName}
-use Rattle.names.specs.declared.TopologyName.the-variants.{Other}
+use Rattle.names.specs.declared.TopologyName.the-variants.{Socket, Cluster, Core, Thread, Other}
 use Rattle.names.specs.Name.{nameOf}
 use Rattle.tables.specs.Board.{nodeCount, range, parentWord, nameOffset, nameLength}
 use Rattle.tables.specs.declared.Parent.{Parent}
 use Rattle.tables.specs.declared.Parent.the-variants.{Is, Top}
 use Rattle.tables.specs.Tree.{parentOf, climb, isBelow, Child, Ancestor}
-use Rattle.tables.proofs.TreeLaws.{parent-is, parent-top, climb-parent, climb-none, below-ancestor}
+use Rattle.tables.proofs.TreeLaws.{parent-is, parent-top, the-parent, climb-parent, climb-none, climb-keeps, below-ancestor}
+use Rattle.cpus.specs.declared.Cell.{Cell}
 use Rattle.cpus.specs.Check.{isChild}
 use Rattle.topology.specs.declared.ClusterPath.{ClusterPath}
 use Rattle.topology.specs.declared.Position.{Position}
-use Rattle.topology.specs.Path.{gap, topologyName, noClusters, clusterStep, clusterPath, socketStep, socketNumber, noPosition, positionStep, positionUnder, positionOf}
+use Rattle.topology.specs.Path.{gap, topologyName, noClusters, extend, clusterStep, clusterPath, socketStep, socketNumber, noPosition, positionStep, positionUnder, positionOf}
 use Rattle.topology.specs.Find.{mapOf, secondMapFault, mapFault, mapScan}
 use Rattle.topology.specs.Check.{hasChild, kindNumber, kindFault, numberFault, leafCpu, shapeFault, broken, leafCheck, isLeafName, mapRecordFault, mapRecordCheck}
 use Rattle.laws.proofs.PassLaws.{count-none}
@@ -101,6 +102,27 @@ module _ (nodes pool : List ℕ) (i : ℕ) where
       go (Is p) h = rw (parent-is nodes i p h .1) (position-is p h)
       go Top h = position-none h
 
+-- a record has no more clusters above it than its number
+pub path-short : (nodes pool : List ℕ) (i : ℕ) → clusterPath nodes pool i .depth ≤ i
+unfolding clusterPath extend
+path-short nodes pool =
+    climb-keeps nodes noClusters (λ j path. clusterStep (topologyName nodes pool j) path) (λ i path. path .depth ≤ i) (λ i. omega arith)
+    (λ i path h le. let lt = the-parent nodes i h .earlier in more (topologyName nodes pool i) path (omega arith))
+  where
+    one-more : (path : ClusterPath) (n : ℕ) → extend path n .depth ≤ path .depth + 1
+    one-more path n = go (ltb (path .depth) 4)
+      where
+        go : (b : Bool) → cond b (record { numbers = set (path .numbers) (path .depth) n; depth = path .depth + 1 }) path .depth ≤ path .depth + 1
+        go true = omega arith
+        go false = omega arith
+
+    more : (name : TopologyName) (path : ClusterPath) {i : ℕ} → path .depth < i → clusterStep name path .depth ≤ i
+    more (Socket n) path lt = omega arith
+    more (Cluster n) path lt = omega (arith, one-more path n)
+    more (Core n) path lt = omega arith
+    more (Thread n) path lt = omega arith
+    more Other path lt = omega arith
+
 -- the records up to p are no children of p
 pub no-children : (nodes : List ℕ) (p : ℕ) → countBelow (isChild nodes p) (p + 1) ≡ 0
 unfolding isChild
@@ -167,20 +189,20 @@ named-fault nodes pool map i name ne e =
     (ap (λ (q : ℕ). orNumber (kindFault nodes pool map q name) (orNumber (numberFault nodes q i name) (shapeFault nodes pool q i name))) e)
 
 -- rules 19 to 24 at a record below the map with a given name
-module _ (nodes props pool : List ℕ) (map : ℕ) (phandles : List ℕ) (i : ℕ) {name : TopologyName} {v : ℕ} (n : name ≡ topologyName nodes pool i) (e : v ≡ mapRecordFault nodes pool map i name) where
+module _ (nodes : List ℕ) (cells : ℕ → Cell) (pool : List ℕ) (map : ℕ) (phandles : List ℕ) (i : ℕ) {name : TopologyName} {v : ℕ} (n : name ≡ topologyName nodes pool i) (e : v ≡ mapRecordFault nodes pool map i name) where
   fault : v ≡ mapRecordFault nodes pool map i (topologyName nodes pool i)
   fault = e ∙ ap (mapRecordFault nodes pool map i) n
 
-  pub shape-told : (v ≡ 0 → ⊥) → broken v (length phandles) ≡ mapRecordCheck nodes props pool map phandles i
+  pub shape-told : (v ≡ 0 → ⊥) → broken v (length phandles) ≡ mapRecordCheck nodes cells pool map phandles i
   unfolding mapRecordCheck
   shape-told ne = rw (← fault, ne-eqb v 0 ne)
 
-  leaf-or-not : {b : Bool} → v ≡ 0 → b ≡ isLeafName nodes i name → cond b (leafCheck (length phandles) (leafCpu props pool phandles i)) (broken 0 (length phandles)) ≡ mapRecordCheck nodes props pool map phandles i
+  leaf-or-not : {b : Bool} → v ≡ 0 → b ≡ isLeafName nodes i name → cond b (leafCheck (length phandles) (leafCpu cells phandles i)) (broken 0 (length phandles)) ≡ mapRecordCheck nodes cells pool map phandles i
   unfolding mapRecordCheck
-  leaf-or-not z l = rw (eq-eqb _ _ (sym fault ∙ z)) (ap (λ (b : Bool). cond b (leafCheck (length phandles) (leafCpu props pool phandles i)) (broken 0 (length phandles))) (l ∙ ap (isLeafName nodes i) n))
+  leaf-or-not z l = rw (eq-eqb _ _ (sym fault ∙ z)) (ap (λ (b : Bool). cond b (leafCheck (length phandles) (leafCpu cells phandles i)) (broken 0 (length phandles))) (l ∙ ap (isLeafName nodes i) n))
 
-  pub leaf-told : {b : Bool} → v ≡ 0 → b ≡ isLeafName nodes i name → b ≡ true → leafCheck (length phandles) (leafCpu props pool phandles i) ≡ mapRecordCheck nodes props pool map phandles i
+  pub leaf-told : {b : Bool} → v ≡ 0 → b ≡ isLeafName nodes i name → b ≡ true → leafCheck (length phandles) (leafCpu cells phandles i) ≡ mapRecordCheck nodes cells pool map phandles i
   leaf-told z l t = leaf-or-not z (sym t ∙ l)
 
-  pub inner-told : {b : Bool} → v ≡ 0 → b ≡ isLeafName nodes i name → b ≡ false → broken 0 (length phandles) ≡ mapRecordCheck nodes props pool map phandles i
+  pub inner-told : {b : Bool} → v ≡ 0 → b ≡ isLeafName nodes i name → b ≡ false → broken 0 (length phandles) ≡ mapRecordCheck nodes cells pool map phandles i
   inner-told z l t = leaf-or-not z (sym t ∙ l)

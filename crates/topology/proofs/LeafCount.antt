@@ -1,17 +1,14 @@
 -- The records that the check answers as leaves: which they are, and that there are no more of them than cpus. Assumes nothing.
-use mathlib.Core.Path.{_≡_, refl, ap, _∙_}
+use mathlib.Core.Path.{_≡_, refl, ap}
 use mathlib.Core.Bool.{Bool, true, false, cond}
-use mathlib.Core.Logic.{⊎-elim}
-use Prim.Native.Nat.{ℕ, _+_, _≤_, _<_}
-use native.Mathlib.Nat.{eq-or-lt-of-le, le-of-suc-le-suc}
-use native.Mathlib.Numerals.{add-one}
+use Prim.Native.Nat.{ℕ, _≤_, _<_}
 use native.Mathlib.Omega.{arith}
 use lib.Dec.{eqb}
-use lib.ListN.{length, length-append}
+use lib.ListN.{length}
 use borrow.Author.Tests.{eq-eqb, eqb-true}
 use Rattle.laws.specs.Fault.{clear, firstFault}
 use Rattle.laws.specs.Search.{listBelow}
-use Rattle.laws.proofs.SearchLaws.{true-false, any-at, any-place, list-yes}
+use Rattle.laws.proofs.SearchLaws.{true-false, any-at, any-place}
 use Rattle.laws.proofs.TestLaws.{both-true}
 use Rattle.laws.proofs.FaultLaws.{below-clear, or-number-zero}
 use Rattle.laws.proofs.ListingLaws.{listed}
@@ -88,20 +85,6 @@ module _ (t : Tree) where
   clear-apart n clean j k lt kn lj lk = not-twice j k lt lj (not-named k lk (or-number-zero (check t k .number) (repeatFault t k) (clean k kn) .1))
 
   module _ (few : length (t .phandles) ≤ maxCpus) (n : ℕ) (clean : firstFault (treeFault t) n ≡ clear) where
-    -- the leaves fit into an array of 256 ..
+    -- the leaves fit into an array of 256
     pub leaves-fit : length (listBelow (isLeaf t) n) ≤ maxCpus
     leaves-fit = omega (arith, leaves-le n (clear-apart n (below-clear (treeFault t) n clean)))
-
-    -- .. and so does one more whose cpu none of them names
-    pub leaf-fits : isLeaf t n ≡ true → namedBelow t n (cpuOf t n) ≡ false → length (listBelow (isLeaf t) n) < maxCpus
-    leaf-fits l f =
-        let more : length (listBelow (isLeaf t) (n + 1)) ≤ length (t .phandles) = leaves-le (n + 1) apart in
-        let size : length (listBelow (isLeaf t) n) + 1 ≤ length (t .phandles) = simp (list-yes (isLeaf t) n l, length-append) at more in
-        omega arith
-      where
-        apart : Apart (n + 1)
-        apart j k lt kn lj lk e =
-            ⊎-elim
-            (λ q. not-twice j n (omega arith) lj f (e ∙ ap (cpuOf t) q))
-            (λ q. clear-apart n (below-clear (treeFault t) n clean) j k lt q lj lk e)
-            (eq-or-lt-of-le (le-of-suc-le-suc (rw (add-one n) at kn)))

@@ -12,6 +12,7 @@ use Rattle.laws.proofs.SearchLaws.{true-false, lt-or-le, lowest-below, lowest-p
 use Rattle.tables.specs.Board.{Board, Typed}
 use Rattle.tables.specs.Property.{cellBytes}
 use Rattle.tables.specs.Rules.{WellFormed}
+use Rattle.keys.specs.Key.{cpuKey}
 use Rattle.cpus.specs.declared.Cell.{Cell}
 use Rattle.cpus.specs.declared.Cell.the-variants.{Is, Not}
 use Rattle.cpus.specs.Node.{Phandle}
@@ -19,14 +20,13 @@ use Rattle.cpus.specs.Rules.{CpuRule}
 use Rattle.cpus.specs.Cell.{cellOf}
 use Rattle.cpus.specs.Check.{cpuList}
 use Rattle.cpus.proofs.ValueMeans.{value-unique, cell-test, test-cell}
-use Rattle.topology.specs.Words.{cpuKey}
 use Rattle.topology.specs.Map.{Names}
-use Rattle.topology.specs.Check.{indexOf, leafCpu}
+use Rattle.topology.specs.Check.{indexOf, leafCpu, cpuCells}
 use Rattle.topology.proofs.PhandleMeans.{cpuAt, cpuIndex, phandlesOf, in-cpus, in-phandles, cpu-index, index-cpu, phandle-at, index-apart}
 
 -- the index that a record's `cpu` gives
 abbrev pub namedIndex : Board → ℕ → ℕ
-namedIndex b i = leafCpu (b .props) (b .pool) (phandlesOf b) i
+namedIndex b i = leafCpu (cpuCells (b .props) (b .pool)) (phandlesOf b) i
 
 module _ {b : Board} (typed : Typed b) (well : WellFormed b) (no17 : (p : ℕ) → CpuRule b 17 p → ⊥) where
   -- it is that of a cpu record which the record names ..

@@ -22,5 +22,7 @@ pub mod TreeLeast
 pub mod TreeTells
 pub mod TreeGives
 pub mod CodeLaws
-pub mod PartLaws
+pub mod CellLaws
+pub mod MapNameLaws
+pub mod GatherLaws
 pub mod ScanLaws

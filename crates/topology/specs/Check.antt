@@ -1,23 +1,24 @@
 -- Rules 18 to 25 at one record.
 use mathlib.Core.Bool.{Bool, true, false, cond}
 use mathlib.Core.List.{List}
-use Prim.Native.Nat.{ℕ, zero, suc, _+_}
-use lib.Dec.{eqb, ltb, leb}
-use lib.ListN.{length, getD}
+use Prim.Native.Nat.{ℕ, _+_}
+use lib.Dec.{eqb, ltb}
+use lib.ListN.{length}
 use Rattle.laws.specs.Fault.{orNumber}
 use Rattle.laws.specs.Search.{placeIn, countBelow}
 use Rattle.names.specs.declared.TopologyName.{TopologyName}
 use Rattle.names.specs.declared.TopologyName.the-variants.{Socket, Cluster, Core, Thread, Other}
-use Rattle.tables.specs.Board.{nodeCount, parentWord}
+use Rattle.tables.specs.Board.{parentWord}
 use Rattle.tables.specs.Tree.{isBelow}
+use Rattle.keys.specs.declared.Key.the-variants.{Cpu}
+use Rattle.keys.specs.Key.{cpuKey}
+use Rattle.keys.specs.Index.{keyAt}
 use Rattle.cpus.specs.declared.Cell.{Cell}
 use Rattle.cpus.specs.declared.Cell.the-variants as cell
-use Rattle.cpus.specs.Cell.{cellOf}
+use Rattle.cpus.specs.Cell.{cellIn, cellOf}
 use Rattle.cpus.specs.Check.{isChild}
 use Rattle.topology.specs.declared.RecordCheck.{RecordCheck}
-use Rattle.topology.specs.Words.{cpuKey}
 use Rattle.topology.specs.Path.{topologyName, clusterPath}
-use Rattle.topology.specs.declared.ClusterPath.{ClusterPath}
 
 -- whether the record after i is its child; in a depth-first table, whether i has children
 unfoldable pub hasChild : List ℕ → ℕ → Bool
@@ -82,8 +83,17 @@ abbrev pub indexOf : List ℕ → Cell → ℕ
 indexOf phandles (cell.Is w) = placeIn phandles w
 indexOf phandles cell.Not = length phandles
 
-unfoldable pub leafCpu : List ℕ → List ℕ → List ℕ → ℕ → ℕ
-leafCpu props pool phandles i = indexOf phandles (cellOf props pool i cpuKey)
+-- the same of leaf i, by the cells of the records' `cpu`
+unfoldable pub leafCpu : (ℕ → Cell) → List ℕ → ℕ → ℕ
+leafCpu cells phandles i = indexOf phandles (cells i)
+
+-- the cell of each record's `cpu`, looked up
+abbrev pub cpuCells : List ℕ → List ℕ → ℕ → Cell
+cpuCells props pool i = cellOf props pool i cpuKey
+
+-- the same, by a table of keys
+abbrev pub keyCells : List ℕ → List ℕ → List ℕ → ℕ → Cell
+keyCells props pool keys i = cellIn props pool (keyAt keys i Cpu)
 
 -- rule 23, and 22 of a cluster under parent p
 abbrev pub groupFault : List ℕ → ℕ → ℕ
@@ -123,16 +133,16 @@ mapRecordFault nodes pool map i name =
     (orNumber (numberFault nodes (parentWord nodes i) i name) (shapeFault nodes pool (parentWord nodes i) i name)))
 
 -- what record i, below the map, breaks of 19 to 24, and the cpu that it names where it is a leaf
-unfoldable pub mapRecordCheck : List ℕ → List ℕ → List ℕ → ℕ → List ℕ → ℕ → RecordCheck
-mapRecordCheck nodes props pool map phandles i =
+unfoldable pub mapRecordCheck : List ℕ → (ℕ → Cell) → List ℕ → ℕ → List ℕ → ℕ → RecordCheck
+mapRecordCheck nodes cells pool map phandles i =
     cond (eqb (mapRecordFault nodes pool map i (topologyName nodes pool i)) 0)
-    (cond (isLeafName nodes i (topologyName nodes pool i)) (leafCheck (length phandles) (leafCpu props pool phandles i)) (broken 0 (length phandles)))
+    (cond (isLeafName nodes i (topologyName nodes pool i)) (leafCheck (length phandles) (leafCpu cells phandles i)) (broken 0 (length phandles)))
     (broken (mapRecordFault nodes pool map i (topologyName nodes pool i)) (length phandles))
 
 -- what record i breaks of 18 to 24, and the cpu that it names where it is a leaf
-unfoldable pub recordCheck : List ℕ → List ℕ → List ℕ → ℕ → List ℕ → ℕ → RecordCheck
-recordCheck nodes props pool map phandles i =
+unfoldable pub recordCheck : List ℕ → (ℕ → Cell) → List ℕ → ℕ → List ℕ → ℕ → RecordCheck
+recordCheck nodes cells pool map phandles i =
     cond (eqb i 0) (broken 0 (length phandles))
     (cond (eqb i map) (broken (groupFault nodes i) (length phandles))
-    (cond (isBelow nodes i map) (mapRecordCheck nodes props pool map phandles i)
+    (cond (isBelow nodes i map) (mapRecordCheck nodes cells pool map phandles i)
     (broken (cond (eqb (kindNumber (topologyName nodes pool i)) 0) 0 18) (length phandles))))

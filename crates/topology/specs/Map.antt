@@ -1,16 +1,15 @@
 -- The map and its records (01: map, below, outside, leaf, what a leaf names).
 use mathlib.Core.Path.{_≡_}
-use mathlib.Core.Logic.{_⊎_}
 use mathlib.Core.List.{List}
-use Prim.Native.Nat.{ℕ, _≤_, _<_}
+use Prim.Native.Nat.{ℕ, _≤_}
 use lib.ListN.{length}
 use Rattle.names.specs.Kind.{Kind, Named}
-use Rattle.tables.specs.Board.{Board, nodeCount, nodeName}
+use Rattle.tables.specs.Board.{Board, nodeName}
 use Rattle.tables.specs.Tree.{Child, Ancestor}
 use Rattle.tables.specs.Property.{HasValue}
+use Rattle.keys.specs.Key.{cpuKey, phandleKey}
 use Rattle.cpus.specs.Node.{Cpu}
-use Rattle.cpus.specs.Words.{phandleKey}
-use Rattle.topology.specs.Words.{mapWord, cpuKey}
+use Rattle.topology.specs.Words.{mapWord}
 
 -- the map: the lowest child of record 0 named `cpu-map`
 pub record Map (b : Board) (m : ℕ) : Type 0 where

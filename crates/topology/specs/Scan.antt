@@ -1,34 +1,34 @@
 -- The leaves of the map: rules 18 to 26 over all records.
-use mathlib.Core.Bool.{Bool, true, false, cond}
-use mathlib.Core.List.{List, [], map}
+use mathlib.Core.Bool.{Bool, false, cond}
+use mathlib.Core.List.{List, map}
 use Prim.Native.Nat.{ℕ}
 use lib.Dec.{eqb, ltb}
 use lib.ListN.{length}
 use Rattle.laws.specs.declared.Fault.{Fault}
 use Rattle.laws.specs.Fault.{told, orElse, orNumber, firstFault}
 use Rattle.laws.specs.Search.{anyBelow, countBelow, listBelow}
-use Rattle.laws.specs.Pad.{padded}
+use Rattle.laws.specs.Listed.{over, toldOf}
 use Rattle.tables.specs.Board.{nodeCount}
+use Rattle.cpus.specs.declared.Cell.{Cell}
 use Rattle.cpus.specs.Check.{isCpu}
 use Rattle.cpus.specs.Rules.{maxCpus}
 use Rattle.topology.specs.declared.RecordCheck.{RecordCheck}
-use Rattle.topology.specs.declared.Leaves.{Leaves}
 use Rattle.topology.specs.declared.TreeScan.{TreeScan}
 use Rattle.topology.specs.Check.{recordCheck}
 
--- The tables, the map's record and the cpu records' phandles.
+-- The tables, the cells of the records' `cpu`, the map's record and the cpu records' phandles.
 pub record Tree : Type 0 where
   pub nodes : List ℕ
-  pub props : List ℕ
+  pub cells : ℕ → Cell
   pub pool : List ℕ
   pub root : ℕ
   pub phandles : List ℕ
 
-abbrev pub tree : List ℕ → List ℕ → List ℕ → ℕ → List ℕ → Tree
-tree nodes props pool root phandles = record { nodes = nodes; props = props; pool = pool; root = root; phandles = phandles }
+abbrev pub tree : List ℕ → (ℕ → Cell) → List ℕ → ℕ → List ℕ → Tree
+tree nodes cells pool root phandles = record { nodes = nodes; cells = cells; pool = pool; root = root; phandles = phandles }
 
 abbrev pub check : Tree → ℕ → RecordCheck
-check t i = recordCheck (t .nodes) (t .props) (t .pool) (t .root) (t .phandles) i
+check t i = recordCheck (t .nodes) (t .cells) (t .pool) (t .root) (t .phandles) i
 
 -- whether record i is a leaf that names a cpu, and which
 abbrev pub isLeaf : Tree → ℕ → Bool
@@ -64,14 +64,28 @@ leavesFault t =
 abbrev pub leafList : Tree → List ℕ
 leafList t = listBelow (isLeaf t) (nodeCount (t .nodes))
 
-unfoldable pub leavesOf : Tree → Leaves
-leavesOf t = record { count = length (leafList t); records = padded 256 (leafList t); cpus = padded 256 (map (cpuOf t) (leafList t)) }
+-- what is answered where a fault is found: it, or the number of leaves where it tells nothing
+abbrev pub answered : Tree → Fault → TreeScan
+answered t f = record { number = f .number; place = f .place; count = cond (eqb (f .number) 0) (length (leafList t)) 0 }
 
-abbrev pub noLeaves : Leaves
-noLeaves = record { count = 0; records = padded 256 []; cpus = padded 256 [] }
+-- the first of rules 18 to 26 that is broken, rule 26 told of a list of cpu records; 10 where there are too many phandles
+unfoldable pub scanFault : Tree → List ℕ → Fault
+scanFault t records =
+    cond (ltb maxCpus (length (t .phandles))) (told 10 0)
+    (orElse (firstFault (treeFault t) (nodeCount (t .nodes)))
+    (toldOf records (firstFault (λ k. cond (namedBelow t (nodeCount (t .nodes)) k) 0 26) (length records))))
 
--- the leaves, or the first of rules 18 to 26 that is broken
-unfoldable pub treeScan : Tree → TreeScan
-treeScan t =
-    cond (eqb (leavesFault t .number) 0) (record { number = 0; place = 0; leaves = leavesOf t })
-    (record { number = leavesFault t .number; place = leavesFault t .place; leaves = noLeaves })
+-- how many leaves there are, or the first of rules 18 to 26 that is broken
+unfoldable pub treeScan : Tree → List ℕ → TreeScan
+treeScan t records = answered t (scanFault t records)
+
+-- the records before the first that breaks rules 18 to 25
+abbrev pub passed : Tree → ℕ
+passed t = let f = firstFault (treeFault t) (nodeCount (t .nodes)) in cond (eqb (f .number) 0) (nodeCount (t .nodes)) (f .place)
+
+-- the lent arrays after the scan: the leaves among the records passed, and the cpus that they name
+unfoldable pub leavesOver : Tree → List ℕ → List ℕ
+leavesOver t before = cond (ltb maxCpus (length (t .phandles))) before (over (listBelow (isLeaf t) (passed t)) before)
+
+unfoldable pub namedOver : Tree → List ℕ → List ℕ
+namedOver t before = cond (ltb maxCpus (length (t .phandles))) before (over (map (cpuOf t) (listBelow (isLeaf t) (passed t))) before)

@@ -5,7 +5,3 @@ use Prim.Native.Nat.{ℕ}
 -- `cpu-map`
 abbrev pub mapWord : List ℕ
 mapWord = 99 ∷ 112 ∷ 117 ∷ 45 ∷ 109 ∷ 97 ∷ 112 ∷ []
-
--- `cpu`
-abbrev pub cpuKey : List ℕ
-cpuKey = 99 ∷ 112 ∷ 117 ∷ []

@@ -10,6 +10,7 @@ use crate::path::topology_name;
 use crate::shape::group_fault;
 use crate::shape::number_fault;
 use crate::shape::shape_fault;
+use keys::KEY_WORDS;
 use laws::BAD_MAP_NAME;
 use laws::NAME_OUTSIDE_MAP;
 use names::TopologyName;
@@ -21,7 +22,7 @@ ghost use Prim.Native.Nat.{_<_};
 ghost use lib.Dec.{eqb};
 ghost use Rattle.tables.specs.Board.{nodeCount, parentWord};
 ghost use Rattle.topology.specs.Path.{topologyName};
-ghost use Rattle.topology.specs.Check.{kindNumber, mapRecordFault, mapRecordCheck, recordCheck};
+ghost use Rattle.topology.specs.Check.{kindNumber, keyCells, mapRecordFault, mapRecordCheck, recordCheck};
 
 // The smallest of 19 to 23 that record i, below the map and so named, breaks; or 0.
 fn map_record_fault(nodes: &[u32], pool: &[u8], map: usize, i: usize, name: TopologyName) -> u32
@@ -48,20 +49,21 @@ fn map_record_check(
     nodes: &[u32],
     props: &[u32],
     pool: &[u8],
+    keys: &[u16; KEY_WORDS],
     map: usize,
     phandles: &[u64],
     i: usize,
     name: TopologyName,
 ) -> RecordCheck
     requires { ⌜ (i < nodeCount (now nodes)) × (parentWord (now nodes) i < i) × (name ≡ topologyName (now nodes) (now pool) i) ⌝ }
-    ensures { λ r. ⌜ r ≡ mapRecordCheck (now (nodes .entry)) (now (props .entry)) (now (pool .entry)) map (now (phandles .entry)) i ⌝ }
+    ensures { λ r. ⌜ r ≡ mapRecordCheck (now (nodes .entry)) (keyCells (now (props .entry)) (now (pool .entry)) (now (keys .entry))) (now (pool .entry)) map (now (phandles .entry)) i ⌝ }
 {
     let number = map_record_fault(nodes, pool, map, i, name);
     if number != 0 {
         return no_leaf(number, phandles.len());
     }
     if is_leaf_name(nodes, i, name) {
-        return leaf_check(phandles.len(), leaf_cpu(props, pool, phandles, i));
+        return leaf_check(phandles.len(), leaf_cpu(props, pool, keys, phandles, i));
     }
     no_leaf(0, phandles.len())
 }
@@ -81,11 +83,12 @@ pub fn record_check(
     nodes: &[u32],
     props: &[u32],
     pool: &[u8],
+    keys: &[u16; KEY_WORDS],
     map: usize,
     phandles: &[u64],
     i: usize,
 ) -> RecordCheck
-    ensures { λ r. ⌜ r ≡ recordCheck (now (nodes .entry)) (now (props .entry)) (now (pool .entry)) map (now (phandles .entry)) i ⌝ }
+    ensures { λ r. ⌜ r ≡ recordCheck (now (nodes .entry)) (keyCells (now (props .entry)) (now (pool .entry)) (now (keys .entry))) (now (pool .entry)) map (now (phandles .entry)) i ⌝ }
 {
     if i == 0 {
         return no_leaf(0, phandles.len());
@@ -95,7 +98,7 @@ pub fn record_check(
     }
     let name = topology_name(nodes, pool, i);
     if is_below(nodes, i, map) {
-        return map_record_check(nodes, props, pool, map, phandles, i, name);
+        return map_record_check(nodes, props, pool, keys, map, phandles, i, name);
     }
     no_leaf(stray_fault(name), phandles.len())
 }

@@ -4,18 +4,33 @@ use cpus::is_child;
 use laws::Fault;
 use laws::NO_MAP;
 use laws::SECOND_MAP;
-use tables::name_is;
+use tables::cell_at;
+use tables::node_word;
 ghost use mathlib.Core.Path.{_≡_};
 ghost use Rattle.laws.specs.Fault.{firstFault};
 ghost use Rattle.tables.specs.Board.{nodeCount};
-ghost use Rattle.topology.specs.Find.{isMap, mapOf, secondMapFault, mapScan};
+ghost use Rattle.topology.specs.Find.{isMapName, isMap, mapOf, secondMapFault, mapScan};
+
+// Whether record i is named `cpu-map`: seven bytes, by the cells at their start and at their end.
+fn is_map_name(nodes: &[u32], pool: &[u8], i: usize) -> bool
+    ensures { λ r. ⌜ r ≡ isMapName (now (nodes .entry)) (now (pool .entry)) i ⌝ }
+{
+    if node_word(nodes, i, 2) != 7 {
+        return false;
+    }
+    let offset = node_word(nodes, i, 1);
+    if cell_at(pool, offset) != 0x6370752d {
+        return false;
+    }
+    cell_at(pool, offset + 3) == 0x2d6d6170
+}
 
 // Whether record i is a child of record 0 named `cpu-map`.
 fn is_map(nodes: &[u32], pool: &[u8], i: usize) -> bool
     ensures { λ r. ⌜ r ≡ isMap (now (nodes .entry)) (now (pool .entry)) i ⌝ }
 {
     if is_child(nodes, 0, i) {
-        return name_is(nodes, pool, i, b"cpu-map");
+        return is_map_name(nodes, pool, i);
     }
     false
 }
@@ -40,7 +55,7 @@ fn second_map_fault(nodes: &[u32], pool: &[u8], map: usize, i: usize) -> u32
     requires { ⌜ map ≡ mapOf (now nodes) (now pool) ⌝ }
     ensures { λ r. ⌜ r ≡ secondMapFault (now (nodes .entry)) (now (pool .entry)) i ⌝ }
 {
-    if name_is(nodes, pool, i, b"cpu-map") {
+    if is_map_name(nodes, pool, i) {
         if i == map {
             return 0;
         }

@@ -1,21 +1,17 @@
 // One pass over the records that gathers the leaves of the map: rules 18 to 25.
-use crate::Leaves;
 use crate::RecordCheck;
 use crate::TreeScan;
 use crate::check::record_check;
 use cpus::MAX_CPUS;
+use keys::KEY_WORDS;
 use laws::REPEATED_LEAF_CPU;
-use tables::index_properties;
-use tables::part_start;
 ghost use mathlib.Core.Path.{_≡_};
-ghost use mathlib.Core.Bool.{cond};
 ghost use Prim.Native.Nat.{_≤_};
-ghost use lib.Dec.{eqb};
 ghost use lib.ListN.{length, replicate};
-ghost use Rattle.tables.specs.Board.{nodeCount};
 ghost use Rattle.cpus.specs.Rules.{maxCpus};
-ghost use Rattle.topology.specs.Scan.{tree};
-ghost use Rattle.topology.specs.Pass.{isMarked, Marked, checkedFault, refused, leafScan};
+ghost use Rattle.topology.specs.Check.{keyCells};
+ghost use Rattle.topology.specs.Scan.{tree, passed, leavesOver, namedOver};
+ghost use Rattle.topology.specs.Pass.{isMarked, Marked, checkedFault, leafScan};
 
 // Whether a table of marks has cpu k marked.
 pub fn is_marked(marks: &[u8], k: usize) -> bool
@@ -43,45 +39,48 @@ fn checked_fault(marks: &[u8], check: RecordCheck) -> u32
     0
 }
 
-// No leaves: the number and the place of what is broken.
+// No leaves counted: the number and the place of what is broken.
 pub fn refuse(number: u32, place: usize) -> TreeScan
-    ensures { λ r. ⌜ r ≡ refused number place ⌝ }
+    ensures { λ r. ⌜ r ≡ record { number = number; place = place; count = 0 } ⌝ }
 {
     TreeScan {
         number,
         place,
-        leaves: Leaves {
-            count: 0,
-            records: [0usize; MAX_CPUS],
-            cpus: [0usize; MAX_CPUS],
-        },
+        count: 0,
     }
 }
 
-// The leaves, or the first of rules 18 to 25 that is broken. The cpus that leaves name are marked, up to the record that breaks one.
+// How many leaves there are, or the first of rules 18 to 25 that is broken. The leaves up to the record that breaks one are listed, and the cpus that they name listed and marked.
 pub fn gather(
     nodes: &[u32],
     props: &[u32],
     pool: &[u8],
+    keys: &[u16; KEY_WORDS],
     map: usize,
     phandles: &[u64],
     marks: &mut [u8],
+    leaves: &mut [usize; MAX_CPUS],
+    named: &mut [usize; MAX_CPUS],
 ) -> TreeScan
     requires { ⌜ (length (now phandles) ≤ maxCpus) × (now marks ≡ replicate maxCpus 0) ⌝ }
-    ensures { λ r. ⌜ r ≡ leafScan (tree (now (nodes .entry)) (now (props .entry)) (now (pool .entry)) map (now (phandles .entry))) ⌝ }
-    ensures { λ r.
-        let t = tree (now (nodes .entry)) (now (props .entry)) (now (pool .entry)) map (now (phandles .entry)) in
-        ⌜ Marked t (cond (eqb (r .number) 0) (nodeCount (t .nodes)) (r .place)) (now (marks .exit)) ⌝ }
+    ensures answer { λ r.
+        let t = tree (now (nodes .entry)) (keyCells (now (props .entry)) (now (pool .entry)) (now (keys .entry))) (now (pool .entry)) map (now (phandles .entry)) in
+        ⌜ r ≡ leafScan t ⌝ }
+    ensures marks { λ _.
+        let t = tree (now (nodes .entry)) (keyCells (now (props .entry)) (now (pool .entry)) (now (keys .entry))) (now (pool .entry)) map (now (phandles .entry)) in
+        ⌜ Marked t (passed t) (now (marks .exit)) ⌝ }
+    ensures leaves { λ _.
+        let t = tree (now (nodes .entry)) (keyCells (now (props .entry)) (now (pool .entry)) (now (keys .entry))) (now (pool .entry)) map (now (phandles .entry)) in
+        ⌜ now (leaves .exit) ≡ leavesOver t (now (leaves .entry)) ⌝ }
+    ensures named { λ _.
+        let t = tree (now (nodes .entry)) (keyCells (now (props .entry)) (now (pool .entry)) (now (keys .entry))) (now (pool .entry)) map (now (phandles .entry)) in
+        ⌜ now (named .exit) ≡ namedOver t (now (named .entry)) ⌝ }
 {
     let n = nodes.len() / 3;
-    let index = index_properties(props);
-    let mut records = [0usize; MAX_CPUS];
-    let mut cpus = [0usize; MAX_CPUS];
     let mut count: usize = 0;
     let mut i: usize = 0;
     while i < n {
-        let start = part_start(&index.starts, props.len(), i);
-        let check = record_check(nodes, &props[start..], pool, map, phandles, i);
+        let check = record_check(nodes, props, pool, keys, map, phandles, i);
         let number = checked_fault(marks, check);
         if number != 0 {
             return refuse(number, i);
@@ -90,9 +89,9 @@ pub fn gather(
             i += 1;
             continue;
         }
-        records[count] = i;
+        leaves[count] = i;
         let cpu = check.cpu;
-        cpus[count] = cpu;
+        named[count] = cpu;
         marks[cpu] = 1;
         count += 1;
         i += 1;
@@ -100,10 +99,6 @@ pub fn gather(
     TreeScan {
         number: 0,
         place: 0,
-        leaves: Leaves {
-            count,
-            records,
-            cpus,
-        },
+        count,
     }
 }

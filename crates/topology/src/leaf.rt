@@ -2,15 +2,15 @@
 use crate::RecordCheck;
 use crate::shape::has_child;
 use cpus::Cell;
-use cpus::cell_of;
+use cpus::cell_in;
+use keys::KEY_WORDS;
+use keys::Key;
+use keys::find_key;
 use laws::BAD_LEAF_CPU;
 use laws::place_in;
 use names::TopologyName;
 ghost use mathlib.Core.Path.{_≡_};
-ghost use lib.Dec.{eqb};
-ghost use lib.ListN.{length, getD};
-ghost use Rattle.laws.specs.Search.{lowest};
-ghost use Rattle.topology.specs.Check.{indexOf, leafCpu, broken, leafCheck, isLeafName};
+ghost use Rattle.topology.specs.Check.{indexOf, leafCpu, keyCells, broken, leafCheck, isLeafName};
 
 // Whether the name of record i is a leaf's: a thread's, or that of a core without children.
 pub fn is_leaf_name(nodes: &[u32], i: usize, name: TopologyName) -> bool
@@ -35,10 +35,16 @@ fn index_of(phandles: &[u64], cell: Cell) -> usize
 }
 
 // The index of the phandle that record i's `cpu` holds, or the number of phandles where it holds none.
-pub fn leaf_cpu(props: &[u32], pool: &[u8], phandles: &[u64], i: usize) -> usize
-    ensures { λ r. ⌜ r ≡ leafCpu (now (props .entry)) (now (pool .entry)) (now (phandles .entry)) i ⌝ }
+pub fn leaf_cpu(
+    props: &[u32],
+    pool: &[u8],
+    keys: &[u16; KEY_WORDS],
+    phandles: &[u64],
+    i: usize,
+) -> usize
+    ensures { λ r. ⌜ r ≡ leafCpu (keyCells (now (props .entry)) (now (pool .entry)) (now (keys .entry))) (now (phandles .entry)) i ⌝ }
 {
-    index_of(phandles, cell_of(props, pool, i, b"cpu"))
+    index_of(phandles, cell_in(props, pool, find_key(keys, i, Key::Cpu)))
 }
 
 // No leaf: the number that a record breaks, or 0.

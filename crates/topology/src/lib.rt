@@ -9,7 +9,6 @@ mod positions;
 mod scan;
 mod shape;
 
-use cpus::MAX_CPUS;
 pub use find::find_map;
 pub use kind::topology_number;
 pub use path::GAP;
@@ -44,16 +43,9 @@ pub struct RecordCheck {
     pub cpu: usize,
 }
 
-// The leaves in record order, and for each the index of the cpu record that it names.
-pub struct Leaves {
-    pub count: usize,
-    pub records: [usize; MAX_CPUS],
-    pub cpus: [usize; MAX_CPUS],
-}
-
-// The leaves of a map, or the number and the place of the first of rules 18 to 26 that is broken.
+// How many leaves a map has, or the number and the place of the first of rules 18 to 26 that is broken.
 pub struct TreeScan {
     pub number: u32,
     pub place: usize,
-    pub leaves: Leaves,
+    pub count: usize,
 }

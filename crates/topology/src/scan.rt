@@ -4,38 +4,33 @@ use crate::gather::gather;
 use crate::gather::is_marked;
 use crate::gather::refuse;
 use cpus::MAX_CPUS;
-use cpus::is_cpu;
+use keys::KEY_WORDS;
 use laws::BAD_CPU_COUNT;
 use laws::Fault;
 use laws::UNMAPPED_CPU;
 ghost use mathlib.Core.Path.{_≡_};
+ghost use lib.ListN.{length};
 ghost use Rattle.laws.specs.Fault.{firstFault};
-ghost use Rattle.tables.specs.Board.{nodeCount};
-ghost use Rattle.topology.specs.Scan.{tree, treeScan};
-ghost use Rattle.topology.specs.Pass.{unnamedFault};
+ghost use Rattle.laws.specs.Listed.{toldOf};
+ghost use Rattle.topology.specs.Check.{keyCells};
+ghost use Rattle.topology.specs.Scan.{tree, treeScan, leavesOver, namedOver};
+ghost use Rattle.topology.specs.Pass.{unmarkedFault};
 
-// The lowest cpu record that breaks rule 26: its index among the cpu records is not marked.
-fn first_unmapped(nodes: &[u32], pool: &[u8], marks: &[u8]) -> Fault
+// The first of a list of cpu records that breaks rule 26: its index in the list is not marked.
+fn first_unmapped(records: &[usize], marks: &[u8]) -> Fault
     ensures { λ r.
-        let table = now (nodes .entry) in
-        ⌜ r ≡ firstFault (unnamedFault table (now (pool .entry)) (now (marks .entry))) (nodeCount table) ⌝ }
+        let list = now (records .entry) in
+        ⌜ r ≡ toldOf list (firstFault (unmarkedFault (now (marks .entry))) (length list)) ⌝ }
 {
-    let n = nodes.len() / 3;
-    let mut index: usize = 0;
-    let mut i: usize = 0;
-    while i < n {
-        if !is_cpu(nodes, pool, i) {
-            i += 1;
-            continue;
-        }
-        if !is_marked(marks, index) {
+    let mut k: usize = 0;
+    while k < records.len() {
+        if !is_marked(marks, k) {
             return Fault {
                 number: UNMAPPED_CPU,
-                place: i,
+                place: records[k],
             };
         }
-        index += 1;
-        i += 1;
+        k += 1;
     }
     Fault {
         number: 0,
@@ -43,25 +38,47 @@ fn first_unmapped(nodes: &[u32], pool: &[u8], marks: &[u8]) -> Fault
     }
 }
 
-// The leaves, or the first of rules 18 to 26 that is broken; 10 where there are too many phandles.
+// Checks rules 18 to 26, and lists the leaves, and for each the index of the cpu record that it names; 10 where there are too many phandles.
 pub fn read_tree(
     nodes: &[u32],
     props: &[u32],
     pool: &[u8],
+    keys: &[u16; KEY_WORDS],
     map: usize,
+    cpu_records: &[usize],
     phandles: &[u64],
+    leaves: &mut [usize; MAX_CPUS],
+    named: &mut [usize; MAX_CPUS],
 ) -> TreeScan
-    ensures { λ r. ⌜ r ≡ treeScan (tree (now (nodes .entry)) (now (props .entry)) (now (pool .entry)) map (now (phandles .entry))) ⌝ }
+    ensures answer { λ r.
+        let t = tree (now (nodes .entry)) (keyCells (now (props .entry)) (now (pool .entry)) (now (keys .entry))) (now (pool .entry)) map (now (phandles .entry)) in
+        ⌜ r ≡ treeScan t (now («cpu_records» .entry)) ⌝ }
+    ensures leaves { λ _.
+        let t = tree (now (nodes .entry)) (keyCells (now (props .entry)) (now (pool .entry)) (now (keys .entry))) (now (pool .entry)) map (now (phandles .entry)) in
+        ⌜ now (leaves .exit) ≡ leavesOver t (now (leaves .entry)) ⌝ }
+    ensures named { λ _.
+        let t = tree (now (nodes .entry)) (keyCells (now (props .entry)) (now (pool .entry)) (now (keys .entry))) (now (pool .entry)) map (now (phandles .entry)) in
+        ⌜ now (named .exit) ≡ namedOver t (now (named .entry)) ⌝ }
 {
     if MAX_CPUS < phandles.len() {
         return refuse(BAD_CPU_COUNT, 0);
     }
     let mut marks = [0u8; MAX_CPUS];
-    let scan = gather(nodes, props, pool, map, phandles, &mut marks);
+    let scan = gather(
+        nodes,
+        props,
+        pool,
+        keys,
+        map,
+        phandles,
+        &mut marks,
+        leaves,
+        named,
+    );
     if scan.number != 0 {
         return scan;
     }
-    let fault = first_unmapped(nodes, pool, &marks);
+    let fault = first_unmapped(cpu_records, &marks);
     if fault.number != 0 {
         return refuse(fault.number, fault.place);
     }

@@ -65,6 +65,10 @@ pub fn group_fault(nodes: &[u32], i: usize) -> u32
 fn depth_fault(nodes: &[u32], pool: &[u8], p: usize) -> u32
     ensures { λ r. ⌜ r ≡ depthFault (now (nodes .entry)) (now (pool .entry)) p ⌝ }
 {
+    // A record has fewer ancestors than its number.
+    if p < 4 {
+        return 0;
+    }
     let above = position_of(nodes, pool, p);
     if above.clusters.depth < 4 {
         return 0;

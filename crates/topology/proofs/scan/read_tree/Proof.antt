@@ -1,27 +1,38 @@
 -- `read_tree` meets its contract: the guard, the pass over the records, the pass over the cpu records. Assumes nothing.
-use mathlib.Core.Path.{refl, sym, _∙_}
+use mathlib.Core.Path.{_∙_}
+use mathlib.Core.List.{List}
+use Prim.Native.Nat.{ℕ}
 use borrow.Author.Needs.{needs}
-use Rattle.topology.proofs.ScanLaws.{marked-all, many-told, first-told, last-is, last-told, last-clear}
+use Rattle.topology.proofs.ScanLaws.{many-told, many-leaves, many-named, first-told, last-is, last-told, last-clear}
 use Rattle.topology.proofs.scan.read_tree.Statement.{statement}
 use Rattle.topology.proofs.scan.read_tree.Tie as tie
+
+-- the list of cpu records
+abbrev records : tie.After-gather → List ℕ
+records c = c .before .before .before .before .before .before .before .before .before .before .args .cpu-records .now
 
 refuse-requires : tie.Need-refuse-requires
 refuse-requires c κs = search needs
 
 returns : tie.Need-returns
-returns c = c .refuse .ensures ∙ many-told _ (c .before .if1 .taken)
+returns c =
+    let lt = c .before .if1 .taken in
+    (c .refuse .ensures ∙ many-told _ _ lt, (many-leaves _ lt _, many-named _ lt _))
 
 slice-aggregate-gather : tie.Need-slice-aggregate-gather
 slice-aggregate-gather c = search needs
 
 gather-requires : tie.Need-gather-requires
-gather-requires c κs = (c .before .if1 .left, refl)
+gather-requires c κs = search needs
 
 returns-2 : tie.Need-returns-2
-returns-2 c = let call = c .before .before .before in first-told _ (call .before .before .if1 .left) (call .gather .ensures .0) (c .if2 .taken)
+returns-2 c =
+    let call = c .before .before .before in
+    let pass = call .gather .ensures in
+    (first-told _ _ (call .before .before .before .before .if1 .left) (pass .0) (c .if2 .taken), pass .1 .1)
 
 slice-aggregate-first-unmapped : tie.Need-slice-aggregate-first-unmapped
-slice-aggregate-first-unmapped c = let test = c .before in let call = test .before .before .before .gather in sym (marked-all _ (test .if2 .left) (call .result .place) (call .ensures .1) .size)
+slice-aggregate-first-unmapped c = search needs
 
 first-unmapped-requires : tie.Need-first-unmapped-requires
 first-unmapped-requires c κs = search needs
@@ -31,23 +42,23 @@ refuse-requires-2 c κs = search needs
 
 returns-3 : tie.Need-returns-3
 returns-3 c =
-    let pass = c .before .before .before in
-    let test = pass .before .before in
+    let last = c .before .before .before in
+    let test = last .before .before in
     let call = test .before .before .before in
-    let few = call .before .before .if1 .left in
-    let scan = call .gather .ensures in
-    let last = last-is _ few (scan .0) (test .if2 .left) (marked-all _ (test .if2 .left) (call .gather .result .place) (scan .1)) (pass .first-unmapped .ensures) in
-    c .refuse2 .ensures ∙ last-told _ few (scan .0) (test .if2 .left) last (c .before .if3 .taken)
+    let few = call .before .before .before .before .if1 .left in
+    let pass = call .gather .ensures in
+    let is = last-is _ (records call) few (pass .0) (test .if2 .left) (pass .1 .0) (last .first-unmapped .ensures) in
+    (c .refuse2 .ensures ∙ last-told _ (records call) few (pass .0) (test .if2 .left) is (c .before .if3 .taken), pass .1 .1)
 
 returns-4 : tie.Need-returns-4
 returns-4 c =
-    let pass = c .before .before in
-    let test = pass .before .before in
+    let last = c .before .before in
+    let test = last .before .before in
     let call = test .before .before .before in
-    let few = call .before .before .if1 .left in
-    let scan = call .gather .ensures in
-    let last = last-is _ few (scan .0) (test .if2 .left) (marked-all _ (test .if2 .left) (call .gather .result .place) (scan .1)) (pass .first-unmapped .ensures) in
-    last-clear _ few (scan .0) (test .if2 .left) last (c .if3 .left)
+    let few = call .before .before .before .before .if1 .left in
+    let pass = call .gather .ensures in
+    let is = last-is _ (records call) few (pass .0) (test .if2 .left) (pass .1 .0) (last .first-unmapped .ensures) in
+    (last-clear _ (records call) few (pass .0) (test .if2 .left) is (c .if3 .left), pass .1 .1)
 
 pub read-tree-spec : {M : Type 1} → statement M
 read-tree-spec =
