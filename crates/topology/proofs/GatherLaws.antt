@@ -22,7 +22,7 @@ use Rattle.cpus.specs.Rules.{maxCpus}
 use Rattle.cpus.proofs.CodeLaws.{over-add, listed-yes, listed-no}
 use Rattle.topology.specs.declared.RecordCheck.{RecordCheck}
 use Rattle.topology.specs.Scan.{Tree, check, isLeaf, cpuOf, namedBelow, treeFault, leafList, passed, leavesOver, namedOver}
-use Rattle.topology.specs.Pass.{isMarked, Marked, checkedFault, leafScan}
+use Rattle.topology.specs.Pass.{isMarked, Marked, Left, checkedFault, leafScan}
 use Rattle.topology.proofs.LeafCount.{leaves-fit}
 
 module _ (t : Tree) where
@@ -77,12 +77,10 @@ module _ (t : Tree) (leaves₀ named₀ : List ℕ) where
         f ∙ ap (checkedFault marks) e ∙ ap (λ (b : Bool). orNumber (check t i .number) (cond (isLeaf t i) (cond b 25 0) 0)) (marked-is t (g .marks-are) (cpuOf t i))
 
     -- what is left in the arrays where the pass ends at record i
-    pub record Left : Type 0 where
-      pub marks-left : Marked t (passed t) marks
-      pub leaves-left : leaves ≡ leavesOver t leaves₀
-      pub named-left : named ≡ namedOver t named₀
+    abbrev LeftHere : Type 0
+    LeftHere = Left t leaves₀ named₀ marks leaves named
 
-    left : length (t .phandles) ≤ maxCpus → passed t ≡ i → Left
+    left : length (t .phandles) ≤ maxCpus → passed t ≡ i → LeftHere
     unfolding leavesOver namedOver
     left few e =
         let fits = le-ltb maxCpus (length (t .phandles)) few in
@@ -97,7 +95,7 @@ module _ (t : Tree) (leaves₀ named₀ : List ℕ) where
       unfolding leafScan
       told-scan = rw (first-at, ne-eqb v 0 ne)
 
-      pub told-left : length (t .phandles) ≤ maxCpus → Left
+      pub told-left : length (t .phandles) ≤ maxCpus → LeftHere
       told-left few = left few (rw (first-at, ne-eqb v 0 ne))
 
     -- all records are passed
@@ -111,7 +109,7 @@ module _ (t : Tree) (leaves₀ named₀ : List ℕ) where
           let size : count ≡ length (leafList t) = g .counted ∙ sym (list-length (isLeaf t) i) ∙ ap (λ (k : ℕ). length (listBelow (isLeaf t) k)) e in
           rw (first-none, size)
 
-      pub all-left : length (t .phandles) ≤ maxCpus → Left
+      pub all-left : length (t .phandles) ≤ maxCpus → LeftHere
       all-left few = left few (rw first-none (sym e))
 
     -- record i breaks none

@@ -10,7 +10,7 @@ use Rattle.tables.specs.Board.{nodeCount}
 use Rattle.cpus.specs.Rules.{maxCpus}
 use Rattle.topology.specs.declared.RecordCheck.{RecordCheck}
 use Rattle.topology.specs.declared.TreeScan.{TreeScan}
-use Rattle.topology.specs.Scan.{Tree, namedBelow, answered, treeFault}
+use Rattle.topology.specs.Scan.{Tree, namedBelow, treeFault, answered, passed, leavesOver, namedOver}
 
 -- whether a table of marks has cpu k marked
 abbrev pub isMarked : List ℕ → ℕ → Bool
@@ -20,6 +20,12 @@ isMarked marks k = eqb (getD marks k 0) 1
 pub record Marked (t : Tree) (n : ℕ) (marks : List ℕ) : Type 0 where
   pub size : length marks ≡ maxCpus
   pub each : (k : ℕ) → getD marks k 0 ≡ cond (namedBelow t n k) 1 0
+
+-- what the pass over the records leaves in the lent arrays: the cpus marked, the leaves, and the cpus that they name
+pub record Left (t : Tree) (leaves₀ named₀ marks leaves named : List ℕ) : Type 0 where
+  pub marks-left : Marked t (passed t) marks
+  pub leaves-left : leaves ≡ leavesOver t leaves₀
+  pub named-left : named ≡ namedOver t named₀
 
 -- the number that a record breaks: its own, or 25 where it is a leaf and an earlier leaf names its cpu
 abbrev pub checkedFault : List ℕ → RecordCheck → ℕ

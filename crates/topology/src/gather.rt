@@ -10,8 +10,8 @@ ghost use Prim.Native.Nat.{_≤_};
 ghost use lib.ListN.{length, replicate};
 ghost use Rattle.cpus.specs.Rules.{maxCpus};
 ghost use Rattle.topology.specs.Check.{keyCells};
-ghost use Rattle.topology.specs.Scan.{tree, passed, leavesOver, namedOver};
-ghost use Rattle.topology.specs.Pass.{isMarked, Marked, checkedFault, leafScan};
+ghost use Rattle.topology.specs.Scan.{tree};
+ghost use Rattle.topology.specs.Pass.{isMarked, Left, checkedFault, leafScan};
 
 // Whether a table of marks has cpu k marked.
 pub fn is_marked(marks: &[u8], k: usize) -> bool
@@ -66,15 +66,9 @@ pub fn gather(
     ensures answer { λ r.
         let t = tree (now (nodes .entry)) (keyCells (now (props .entry)) (now (pool .entry)) (now (keys .entry))) (now (pool .entry)) map (now (phandles .entry)) in
         ⌜ r ≡ leafScan t ⌝ }
-    ensures marks { λ _.
+    ensures arrays { λ _.
         let t = tree (now (nodes .entry)) (keyCells (now (props .entry)) (now (pool .entry)) (now (keys .entry))) (now (pool .entry)) map (now (phandles .entry)) in
-        ⌜ Marked t (passed t) (now (marks .exit)) ⌝ }
-    ensures leaves { λ _.
-        let t = tree (now (nodes .entry)) (keyCells (now (props .entry)) (now (pool .entry)) (now (keys .entry))) (now (pool .entry)) map (now (phandles .entry)) in
-        ⌜ now (leaves .exit) ≡ leavesOver t (now (leaves .entry)) ⌝ }
-    ensures named { λ _.
-        let t = tree (now (nodes .entry)) (keyCells (now (props .entry)) (now (pool .entry)) (now (keys .entry))) (now (pool .entry)) map (now (phandles .entry)) in
-        ⌜ now (named .exit) ≡ namedOver t (now (named .entry)) ⌝ }
+        ⌜ Left t (now (leaves .entry)) (now (named .entry)) (now (marks .exit)) (now (leaves .exit)) (now (named .exit)) ⌝ }
 {
     let n = nodes.len() / 3;
     let mut count: usize = 0;

@@ -76,9 +76,10 @@ returns : tie.Need-returns Inv-loop μ-loop
 returns c =
     let call = c .before .before in
     let at = call .before .before .before .before in
-    let g = at .loop .inv .1 in
-    let left = told-left _ _ _ g (omega arith) (fault call) (c .before .if1 .taken) (entry at .pre .0) in
-    (c .refuse .ensures ∙ told-scan _ _ _ g (omega arith) (fault call) (c .before .if1 .taken), (left .marks-left, (left .leaves-left, left .named-left)))
+    let g = at .loop .inv .1 in (
+      c .refuse .ensures ∙ told-scan _ _ _ g (omega arith) (fault call) (c .before .if1 .taken),
+      told-left _ _ _ g (omega arith) (fault call) (c .before .if1 .taken) (entry at .pre .0),
+    )
 
 add-i : tie.Need-add-i Inv-loop μ-loop
 add-i c = search needs
@@ -132,8 +133,7 @@ same-length-2 c = same-size (entry (c .before)) (c .before .loop .inv .1 .marks-
 returns-2 : tie.Need-returns-2 Inv-loop μ-loop
 returns-2 c =
     let g = c .before .loop .inv .1 in
-    let left = all-left _ _ _ g (omega arith) (entry (c .before) .pre .0) in
-    (all-scan _ _ _ g (omega arith), (left .marks-left, (left .leaves-left, left .named-left)))
+    (all-scan _ _ _ g (omega arith), all-left _ _ _ g (omega arith) (entry (c .before) .pre .0))
 
 pub gather-spec : {M : Type 1} → statement M
 gather-spec =

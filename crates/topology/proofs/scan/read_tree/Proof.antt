@@ -29,7 +29,7 @@ returns-2 : tie.Need-returns-2
 returns-2 c =
     let call = c .before .before .before in
     let pass = call .gather .ensures in
-    (first-told _ _ (call .before .before .before .before .if1 .left) (pass .0) (c .if2 .taken), pass .1 .1)
+    (first-told _ _ (call .before .before .before .before .if1 .left) (pass .0) (c .if2 .taken), (pass .1 .leaves-left, pass .1 .named-left))
 
 slice-aggregate-first-unmapped : tie.Need-slice-aggregate-first-unmapped
 slice-aggregate-first-unmapped c = search needs
@@ -47,8 +47,8 @@ returns-3 c =
     let call = test .before .before .before in
     let few = call .before .before .before .before .if1 .left in
     let pass = call .gather .ensures in
-    let is = last-is _ (records call) few (pass .0) (test .if2 .left) (pass .1 .0) (last .first-unmapped .ensures) in
-    (c .refuse2 .ensures ∙ last-told _ (records call) few (pass .0) (test .if2 .left) is (c .before .if3 .taken), pass .1 .1)
+    let is = last-is _ (records call) few (pass .0) (test .if2 .left) (pass .1 .marks-left) (last .first-unmapped .ensures) in
+    (c .refuse2 .ensures ∙ last-told _ (records call) few (pass .0) (test .if2 .left) is (c .before .if3 .taken), (pass .1 .leaves-left, pass .1 .named-left))
 
 returns-4 : tie.Need-returns-4
 returns-4 c =
@@ -57,8 +57,8 @@ returns-4 c =
     let call = test .before .before .before in
     let few = call .before .before .before .before .if1 .left in
     let pass = call .gather .ensures in
-    let is = last-is _ (records call) few (pass .0) (test .if2 .left) (pass .1 .0) (last .first-unmapped .ensures) in
-    (last-clear _ (records call) few (pass .0) (test .if2 .left) is (c .if3 .left), pass .1 .1)
+    let is = last-is _ (records call) few (pass .0) (test .if2 .left) (pass .1 .marks-left) (last .first-unmapped .ensures) in
+    (last-clear _ (records call) few (pass .0) (test .if2 .left) is (c .if3 .left), (pass .1 .leaves-left, pass .1 .named-left))
 
 pub read-tree-spec : {M : Type 1} → statement M
 read-tree-spec =
