@@ -20,7 +20,6 @@ use Rattle.cpus.proofs.CpuMeans.{cpu-listing, cpu-count}
 use Rattle.topology.specs.Map.{Map}
 use Rattle.topology.specs.Rules.{MapRule}
 use Rattle.topology.specs.Find.{mapOf}
-use Rattle.topology.specs.Scan.{leavesOf}
 use Rattle.topology.proofs.MapMeans.{map-of, no-map}
 use Rattle.rows.specs.Fits.{rowSize, Fits, Mpidrs}
 use Rattle.rows.specs.Write.{rowsBelow, written}
@@ -74,22 +73,18 @@ module _
     after = written (sourceOf b) before
 
     fits : Fits b (take (rowSize * cpuCount b) after)
-    unfolding leavesOf
     fits = rw (← same, written-front (theSource b) before has-room) (rows-fit typed well sound (the-map .1) kept leaves)
 
     slot-at : (k : ℕ) → k < cpuCount b → slotAt after k ≡ slotAt (rowsBelow (theSource b) (leafCount b)) k
-    unfolding leavesOf
     slot-at k lt = written-at (theSource b) before has-room (rowSize * k + 11) (omega (arith, same))
 
     distinct : (j k : ℕ) → j < cpuCount b → k < cpuCount b → slotAt after j ≡ slotAt after k → j ≡ k
     distinct j k lj lk e = slots-distinct-rows typed well sound leaves j k (rw same lj) (rw same lk) (sym (slot-at j lj) ∙ e ∙ slot-at k lk)
 
     rest : drop (rowSize * cpuCount b) after ≡ drop (rowSize * cpuCount b) before
-    unfolding leavesOf
     rest = rw (← same) (written-rest (theSource b) before has-room)
 
     rows-accepted : Accepted b before (record { number = 0; place = 0; count = cpuCount b; hash = hashOf (mpidrList b) }) after
-    unfolding leavesOf
     rows-accepted =
         record {
           place = refl;

@@ -9,29 +9,19 @@ use lib.ListN.{length, take, length-map}
 use borrow.Author.Tests.{eq-eqb, ne-eqb, eqb-true, eqb-false, ltb-false, le-ltb, lt-ltb}
 use Rattle.laws.specs.declared.Fault.{Fault}
 use Rattle.laws.specs.Fault.{told, orElse, firstFault}
-use Rattle.laws.specs.Pad.{padded}
-use Rattle.laws.proofs.FaultLaws.{or-first, or-second}
-use Rattle.laws.proofs.OrElseLaws.{told-number, or-clear}
-use Rattle.laws.proofs.PadLaws.{pad-take}
-use Rattle.affinity.specs.Hash.{hashOf}
-use Rattle.tables.specs.Board.{Board, Typed}
+use Rattle.laws.proofs.OrElseLaws.{told-number, or-clear, or-assoc}
+use Rattle.tables.specs.Board.{Board, Typed, nodeCount}
 use Rattle.tables.specs.Check.{tableFault}
-use Rattle.cpus.specs.declared.Cpus.{Cpus}
-use Rattle.cpus.specs.declared.CpuScan.{CpuScan}
-use Rattle.cpus.specs.declared.PhandleScan.{PhandleScan}
 use Rattle.cpus.specs.Rules.{maxCpus}
-use Rattle.cpus.specs.Check.{cpuCount, cpuList, countFault, rootFault, cpuFault, cpusFault, cpuScan, cpusOf, phandlesFault, phandleList, phandleScan}
-use Rattle.cpus.proofs.CpuMeans.{cpu-count}
+use Rattle.cpus.specs.Check.{cpuCount, cpuList, countFault, rootFault, cpuFault, cpusFault, phandlesFault}
 use Rattle.topology.specs.declared.MapScan.{MapScan}
-use Rattle.topology.specs.declared.TreeScan.{TreeScan}
 use Rattle.topology.specs.Find.{mapOf, mapFault, mapScan}
-use Rattle.topology.specs.Scan.{Tree, leavesFault, leavesOf, treeScan}
-use Rattle.rows.specs.Fits.{rowSize}
-use Rattle.rows.specs.Write.{written}
+use Rattle.topology.specs.Scan.{leavesFault}
 use Rattle.board.specs.declared.BoardAnswer.{BoardAnswer}
-use Rattle.board.specs.Answer.{boardFault, roomFault, treeOf, mpidrList, sourceOf, refusedWith, answerOf, rowsAfter}
+use Rattle.board.specs.Answer.{boardFault, roomFault, treeOf, mpidrList, sourceOf, answerOf, rowsAfter}
 use Rattle.board.specs.Reading.{Demands}
 use Rattle.board.proofs.Claim.{demands}
+use Rattle.board.proofs.OutcomeLaws.{found, Outcome}
 
 -- A scan: `good` where the fault tells nothing, and else `bad`, which holds the fault's number and place.
 module _ {A : Type 0} (f : Fault) (good bad : A) where
@@ -51,33 +41,7 @@ module _ {A : Type 0} (f : Fault) (good bad : A) where
   pub scan-place : (place : A → ℕ) → place bad ≡ f .place → (f .number ≡ 0 → ⊥) → place scanned ≡ f .place
   scan-place place h ne = rw (ne-eqb (f .number) 0 ne) h
 
--- the scans of the layers
-module _ (b : Board) where
-  pub cpu-number : cpuScan b .number ≡ cpusFault b .number
-  unfolding cpuScan
-  cpu-number = scan-number (cpusFault b) _ _ (λ (r : CpuScan). r .number) refl refl
-
-  pub cpu-place : (cpusFault b .number ≡ 0 → ⊥) → cpuScan b .place ≡ cpusFault b .place
-  unfolding cpuScan
-  cpu-place = scan-place (cpusFault b) _ _ (λ (r : CpuScan). r .place) refl
-
-  pub cpu-cpus : cpusFault b .number ≡ 0 → cpuScan b .cpus ≡ cpusOf b
-  unfolding cpuScan
-  cpu-cpus z = ap (λ (r : CpuScan). r .cpus) (scan-good (cpusFault b) _ _ z)
-
-module _ (nodes props pool : List ℕ) where
-  pub phandle-number : phandleScan nodes props pool .number ≡ phandlesFault nodes props pool .number
-  unfolding phandleScan
-  phandle-number = scan-number (phandlesFault nodes props pool) _ _ (λ (r : PhandleScan). r .number) refl refl
-
-  pub phandle-place : (phandlesFault nodes props pool .number ≡ 0 → ⊥) → phandleScan nodes props pool .place ≡ phandlesFault nodes props pool .place
-  unfolding phandleScan
-  phandle-place = scan-place (phandlesFault nodes props pool) _ _ (λ (r : PhandleScan). r .place) refl
-
-  pub phandle-values : phandlesFault nodes props pool .number ≡ 0 → phandleScan nodes props pool .values ≡ padded 256 (phandleList nodes props pool)
-  unfolding phandleScan
-  phandle-values z = ap (λ (r : PhandleScan). r .values) (scan-good (phandlesFault nodes props pool) _ _ z)
-
+-- the scan for the map
 module _ (nodes pool : List ℕ) where
   pub map-number : mapScan nodes pool .number ≡ mapFault nodes pool .number
   unfolding mapScan
@@ -90,19 +54,6 @@ module _ (nodes pool : List ℕ) where
   pub map-root : mapFault nodes pool .number ≡ 0 → mapScan nodes pool .map ≡ mapOf nodes pool
   unfolding mapScan
   map-root z = ap (λ (r : MapScan). r .map) (scan-good (mapFault nodes pool) _ _ z)
-
-module _ (t : Tree) where
-  pub tree-number : treeScan t .number ≡ leavesFault t .number
-  unfolding treeScan
-  tree-number = scan-number (leavesFault t) _ _ (λ (r : TreeScan). r .number) refl refl
-
-  pub tree-place : (leavesFault t .number ≡ 0 → ⊥) → treeScan t .place ≡ leavesFault t .place
-  unfolding treeScan
-  tree-place = scan-place (leavesFault t) _ _ (λ (r : TreeScan). r .place) refl
-
-  pub tree-leaves : leavesFault t .number ≡ 0 → treeScan t .leaves ≡ leavesOf t
-  unfolding treeScan
-  tree-leaves z = ap (λ (r : TreeScan). r .leaves) (scan-good (leavesFault t) _ _ z)
 
 -- the faults from each layer on
 module _ (b : Board) (room : ℕ) where
@@ -137,42 +88,21 @@ few-cpus b z =
         go false e true g h = absurd (omega arith)
         go false e false g h = ltb-false maxCpus n g
 
--- the front of an array that holds a number of each cpu record
-pub front : (b : Board) (g : ℕ → ℕ) → cpuCount b ≤ 256 → take (cpuCount b) (padded 256 (map g (cpuList b))) ≡ map g (cpuList b)
-front b g few =
-    let size : length (map g (cpuList b)) ≡ cpuCount b = length-map (cpuList b) g ∙ sym (cpu-count b) in
-    ap (λ (n : ℕ). take n (padded 256 (map g (cpuList b)))) (sym size) ∙ pad-take 256 (map g (cpuList b)) (omega arith)
+-- the faults of a board, stage by stage up to rule 13
+pub board-stages :
+    (b : Board) (room : ℕ) →
+    boardFault b room
+    ≡ orElse (tableFault b)
+    (orElse (told (rootFault b) 0)
+    (orElse (told (countFault (cpuCount b)) 0) (orElse (firstFault (cpuFault b) (nodeCount (b .nodes))) (fromMap b room))))
+unfolding boardFault cpusFault
+board-stages b room = simp or-assoc
 
 module _ {b : Board} (typed : Typed b) (before : List ℕ) where
   -- what the contract asks of an answer and the buffer after the call
   abbrev pub Met : BoardAnswer → List ℕ → Type 0
   Met r after = (r ≡ answerOf b (length before)) × ((after ≡ rowsAfter b before) × Demands b before r after)
 
-  meets : (r : BoardAnswer) (after : List ℕ) → r ≡ answerOf b (length before) → after ≡ rowsAfter b before → Met r after
-  meets r after e g = (e, (g, rw (e, g) (demands typed before)))
-
-  -- a refusal by the first fault of those that are left
-  pub refuses :
-      (r : BoardAnswer) (f rest : Fault) (n p : ℕ) →
-      r ≡ refusedWith n p →
-      boardFault b (length before) ≡ orElse f rest →
-      (n ≡ 0 → ⊥) →
-      n ≡ f .number →
-      p ≡ f .place →
-      Met r before
+  pub meets : {r : BoardAnswer} {after : List ℕ} → Outcome before (found (cpuCount b) (mpidrList b) (sourceOf b)) (boardFault b (length before)) r after → Met r after
   unfolding answerOf rowsAfter
-  refuses r f rest n p e chain ne en ep =
-      let told-f : f .number ≡ 0 → ⊥ = λ z. ne (en ∙ z) in
-      let is-f : boardFault b (length before) ≡ f = chain ∙ or-first f rest told-f in
-      let some = ne-eqb (boardFault b (length before) .number) 0 (λ z. told-f (ap (λ (a : Fault). a .number) (sym is-f) ∙ z)) in
-      meets r before (rw some (e ∙ rw (is-f, en, ep))) (rw some)
-
-  -- an acceptance: nothing is told
-  pub accepts :
-      (r : BoardAnswer) (after : List ℕ) →
-      boardFault b (length before) .number ≡ 0 →
-      r ≡ record { number = 0; place = 0; count = cpuCount b; hash = hashOf (mpidrList b) } →
-      after ≡ written (sourceOf b) before →
-      Met r after
-  unfolding answerOf rowsAfter
-  accepts r after z e g = let none = eq-eqb (boardFault b (length before) .number) 0 z in meets r after (rw none e) (rw none g)
+  meets (e, g) = (e, (g, rw (e, g) (demands typed before)))

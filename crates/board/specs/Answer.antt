@@ -11,16 +11,17 @@ use Rattle.affinity.specs.Hash.{hashOf}
 use Rattle.affinity.specs.List.{noHash}
 use Rattle.tables.specs.Board.{Board}
 use Rattle.tables.specs.Check.{tableFault}
-use Rattle.cpus.specs.Check.{cpusFault, cpuCount, cpuList, mpidrAt, cpusOf, phandlesFault, phandleList}
+use Rattle.cpus.specs.Check.{cpusFault, cpuCount, cpuList, mpidrAt, phandlesFault, phandleList}
 use Rattle.topology.specs.Find.{mapOf, mapFault}
-use Rattle.topology.specs.Scan.{Tree, tree, leavesFault, leavesOf}
+use Rattle.topology.specs.Check.{cpuCells}
+use Rattle.topology.specs.Scan.{Tree, tree, cpuOf, leafList, leavesFault}
 use Rattle.rows.specs.Fits.{rowSize}
 use Rattle.rows.specs.Write.{Source, source, written}
 use Rattle.board.specs.declared.BoardAnswer.{BoardAnswer}
 
 -- the tables with the map's record and the cpu records' phandles
 abbrev pub treeOf : Board → Tree
-treeOf b = tree (b .nodes) (b .props) (b .pool) (mapOf (b .nodes) (b .pool)) (phandleList (b .nodes) (b .props) (b .pool))
+treeOf b = tree (b .nodes) (cpuCells (b .props) (b .pool)) (b .pool) (mapOf (b .nodes) (b .pool)) (phandleList (b .nodes) (b .props) (b .pool))
 
 -- rule 27
 abbrev pub roomFault : ℕ → ℕ → ℕ
@@ -40,17 +41,26 @@ mpidrList b = map (mpidrAt b) (cpuList b)
 
 -- what the rows of an accepted board are made of
 abbrev pub sourceOf : Board → Source
-sourceOf b = source (b .nodes) (b .pool) (cpusOf b) (leavesOf (treeOf b)) (maskOf (mpidrList b))
+sourceOf b =
+    let t = treeOf b in
+    source (b .nodes) (b .pool) (cpuList b) (mpidrList b) (leafList t) (map (cpuOf t) (leafList t)) (maskOf (mpidrList b))
 
 -- a refusal: every other result is 0
 abbrev pub refusedWith : ℕ → ℕ → BoardAnswer
 refusedWith number place = record { number = number; place = place; count = 0; hash = noHash }
 
+-- what is answered where a fault is told, or where none is: how many cpu records there are, and the hash of their MPIDRs
+abbrev pub answerBy : Fault → ℕ → List ℕ → BoardAnswer
+answerBy f count mpidrs =
+    cond (eqb (f .number) 0) (record { number = 0; place = 0; count = count; hash = hashOf mpidrs }) (refusedWith (f .number) (f .place))
+
+-- the row buffer afterwards: with the rows where no fault is told
+abbrev pub rowsBy : Fault → Source → List ℕ → List ℕ
+rowsBy f s before = cond (eqb (f .number) 0) (written s before) before
+
 unfoldable pub answerOf : Board → ℕ → BoardAnswer
-answerOf b room =
-    cond (eqb (boardFault b room .number) 0) (record { number = 0; place = 0; count = cpuCount b; hash = hashOf (mpidrList b) })
-    (refusedWith (boardFault b room .number) (boardFault b room .place))
+answerOf b room = answerBy (boardFault b room) (cpuCount b) (mpidrList b)
 
 -- the row buffer after the call
 unfoldable pub rowsAfter : Board → List ℕ → List ℕ
-rowsAfter b before = cond (eqb (boardFault b (length before) .number) 0) (written (sourceOf b) before) before
+rowsAfter b before = rowsBy (boardFault b (length before)) (sourceOf b) before

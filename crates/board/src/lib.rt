@@ -1,7 +1,12 @@
 // The board reader: a board's tables in, rows and save slots out, or the number and the place of the first rule broken.
+mod leaves;
+mod records;
+
 use affinity::Hash;
-use laws::NO_ROOM;
-use rows::ROW_WORDS;
+use cpus::MAX_CPUS;
+use keys::KEY_WORDS;
+use laws::BAD_CPUS_NODE;
+use records::read_records;
 ghost use mathlib.Core.Path.{_≡_};
 ghost use lib.ListN.{length};
 ghost use Rattle.tables.specs.Board.{board};
@@ -31,7 +36,7 @@ fn refused(number: u32, place: usize) -> BoardAnswer
     }
 }
 
-// Reads a board's tables. Rows are written only once every rule has passed.
+// Reads a board's tables.
 pub fn read_tables(
     width: u32,
     nodes: &[u32],
@@ -49,40 +54,21 @@ pub fn read_tables(
         let b = board width (now (nodes .entry)) (now (props .entry)) (now (pool .entry)) in
         ⌜ Demands b (now (rows .entry)) r (now (rows .exit)) ⌝ }
 {
-    let table = tables::table_fault(width, nodes, props, pool);
-    if table.number != 0 {
-        return refused(table.number, table.place);
+    let fault = tables::table_fault(width, nodes, props, pool);
+    if fault.number != 0 {
+        return refused(fault.number, fault.place);
     }
-    let found = cpus::read_cpus(width, nodes, props, pool);
-    if found.number != 0 {
-        return refused(found.number, found.place);
+    let cells = cpus::read_cells(width, nodes, props, pool);
+    if cells == 0 {
+        return refused(BAD_CPUS_NODE, 0);
     }
-    let map = topology::find_map(nodes, pool);
-    if map.number != 0 {
-        return refused(map.number, map.place);
+    let mut records = [0usize; MAX_CPUS];
+    let count = cpus::list_cpus(nodes, pool, &mut records);
+    let number = cpus::count_fault(count);
+    if number != 0 {
+        return refused(number, 0);
     }
-    let handles = cpus::read_phandles(nodes, props, pool);
-    if handles.number != 0 {
-        return refused(handles.number, handles.place);
-    }
-    let cpus = found.cpus;
-    let count = cpus.count;
-    let phandles = handles.values;
-    let tree = topology::read_tree(nodes, props, pool, map.map, &phandles[..count]);
-    if tree.number != 0 {
-        return refused(tree.number, tree.place);
-    }
-    if rows.len() / ROW_WORDS < count {
-        return refused(NO_ROOM, 0);
-    }
-    let mpidrs = cpus.mpidrs;
-    let leaves = tree.leaves;
-    let mask = affinity::mask_of(&mpidrs[..count]);
-    rows::write_rows(rows, nodes, pool, cpus, leaves, mask);
-    BoardAnswer {
-        number: 0,
-        place: 0,
-        count,
-        hash: affinity::hash_of_mask(mask),
-    }
+    let mut keys = [0u16; KEY_WORDS];
+    keys::index_keys(props, pool, &mut keys);
+    read_records(nodes, props, pool, &keys, cells, &records[..count], rows)
 }

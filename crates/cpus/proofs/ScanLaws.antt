@@ -2,16 +2,16 @@
 use mathlib.Core.Path.{_≡_, refl, sym, ap, _∙_, fun-ext}
 use mathlib.Core.Bool.{Bool, true, false, cond}
 use mathlib.Core.List.{List, map}
-use Prim.Native.Nat.{ℕ, _<_}
+use Prim.Native.Nat.{ℕ, _≤_, _<_}
 use native.Mathlib.Omega.{arith}
-use lib.Dec.{eqb}
-use lib.ListN.{length, getD}
+use lib.Dec.{eqb, ltb}
+use lib.ListN.{length, getD, take}
 use lib.Seq.{take-length}
-use borrow.Author.Tests.{eq-eqb, ne-eqb, eqb-true, eqb-false}
+use borrow.Author.Tests.{eq-eqb, ne-eqb, eqb-true, eqb-false, ltb-false}
 use Rattle.laws.specs.declared.Fault.{Fault}
-use Rattle.laws.specs.Fault.{firstFault}
+use Rattle.laws.specs.Fault.{told, firstFault}
 use Rattle.laws.specs.Search.{anyBelow, countBelow, listBelow, isAmong}
-use Rattle.laws.specs.Listed.{over, toldOf}
+use Rattle.laws.specs.Listed.{over, toldOf, passedOf}
 use Rattle.laws.proofs.FaultLaws.{first-is}
 use Rattle.laws.proofs.OrElseLaws.{told-number}
 use Rattle.laws.proofs.GatherLaws.{any-same, gathered-seen, map-below, first-same}
@@ -31,7 +31,7 @@ use Rattle.cpus.specs.declared.Reading.{Reading}
 use Rattle.cpus.specs.Words.{cpuString}
 use Rattle.cpus.specs.Cell.{cellOf, hasValue, mpidrOf}
 use Rattle.cpus.specs.Check.{isCpu, addressCells, cpuList, mpidrFault, sameMpidr, mpidrNumber, mpidrAt, cpuFault, phandleOf, cellFault, sameCell, cellNumber, phandleFault, phandleList}
-use Rattle.cpus.specs.Gather.{reading, mpidrReading, phandleReading, readingFrom, readingAt, readingOf, unlessSeen, listedFault, firstIndex, firstRecord, numbersOver}
+use Rattle.cpus.specs.Gather.{reading, mpidrReading, phandleReading, readingFrom, readingAt, readingOf, unlessSeen, listedFault, firstIndex, firstRecord, numbersOver, numbersFault, numbersAfter}
 
 -- what place i that passes p breaks, 0 where nothing, given the readings of all
 unfoldable gatherFault : (ℕ → Bool) → (ℕ → Reading) → ℕ → ℕ → ℕ
@@ -63,11 +63,24 @@ module _ (p : ℕ → Bool) (r : ℕ → Reading) (rule n : ℕ) where
       ∙ first-listed p ownFault n
       ∙ first-same (λ i. cond (p i) (ownFault (countBelow p i) i) 0) (gatherFault p r rule) n (λ i _ _. own-gathered i)
 
-  all-numbers : (before : List ℕ) → firstRecord r rule (listBelow p n) .number ≡ 0 → numbersOver r rule (listBelow p n) before ≡ over (map (λ i. r i .value) (listBelow p n)) before
-  unfolding firstRecord numbersOver
-  all-numbers before z =
-      let none : firstIndex r rule (listBelow p n) .number ≡ 0 = sym (told-number _ _) ∙ z in
-      rw (eq-eqb _ 0 none, take-length (listBelow p n))
+-- where a stage that reads a number of each record tells nothing, the buffer holds the numbers of all
+pub numbers-clear :
+    (r : ℕ → Reading) (rule : ℕ) (records before : List ℕ) →
+    numbersFault r rule records (length before) .number ≡ 0 →
+    (length records ≤ length before) × (numbersAfter r rule records before ≡ over (map (λ i. r i .value) records) before)
+unfolding numbersFault numbersAfter firstRecord numbersOver
+numbers-clear r rule records before z = go (ltb (length before) (length records)) refl z
+  where
+    go :
+        (t : Bool) →
+        ltb (length before) (length records) ≡ t →
+        cond t (told 10 0) (toldOf records (firstIndex r rule records)) .number ≡ 0 →
+        (length records ≤ length before)
+        × (cond t before (over (map (λ i. r i .value) (take (passedOf records (firstIndex r rule records)) records)) before) ≡ over (map (λ i. r i .value) records) before)
+    go true e q = absurd (omega arith)
+    go false e q =
+        let none : firstIndex r rule records .number ≡ 0 = sym (told-number _ _) ∙ q in
+        (ltb-false _ _ e, rw (eq-eqb _ 0 none, take-length records))
 
 -- a reading that breaks a rule by itself, and one that does not
 unless-broken : (rule : ℕ) (seen : Bool) (q : Reading) → (q .number ≡ 0 → ⊥) → unlessSeen rule seen q .number ≡ q .number
@@ -130,15 +143,13 @@ module _ (p : ℕ → Bool) (r : ℕ → Reading) (rule : ℕ) (tells : ℕ → 
   listed-told : (n : ℕ) → firstRecord r rule (listBelow p n) ≡ firstFault stageFault n
   listed-told n = first-gathered p r rule n ∙ first-same (gatherFault p r rule) stageFault n (λ i _ none. same-fault i none)
 
-  listed-read :
-      (v : ℕ → ℕ) (n : ℕ) (before : List ℕ) →
+  listed-numbers :
+      (v : ℕ → ℕ) (n : ℕ) →
       ((i : ℕ) → r i .number ≡ 0 → r i .value ≡ v i) →
       firstFault stageFault n .number ≡ 0 →
-      numbersOver r rule (listBelow p n) before ≡ over (map v (listBelow p n)) before
-  listed-read v n before value z =
-      let none = ap (λ (a : Fault). a .number) (listed-told n) ∙ z in
-      all-numbers p r rule n before none
-      ∙ ap (λ (l : List ℕ). over l before) (numbers v n value (ap (λ (a : Fault). a .number) (sym (first-gathered p r rule n)) ∙ none))
+      map (λ i. r i .value) (listBelow p n) ≡ map v (listBelow p n)
+  listed-numbers v n value z =
+      numbers v n value (ap (λ (a : Fault). a .number) (sym (first-gathered p r rule n) ∙ listed-told n) ∙ z)
 
 -- the reading of an MPIDR where the device type is `cpu` (t) or not, and what the stage of rules 11 to 13 tells of it
 abbrev ownReading : Bool → Mpidr → Reading
@@ -202,19 +213,17 @@ module _ (b : Board) where
       (λ i j. mpidr-agree (typed i) (typed j) (mpidrs i) (mpidrs j))
       (nodeCount (b .nodes))
 
-  pub mpidrs-read :
-      (before : List ℕ) →
-      firstFault (cpuFault b) (nodeCount (b .nodes)) .number ≡ 0 →
-      numbersOver mpidrReadings 13 (cpuList b) before ≡ over (map (mpidrAt b) (cpuList b)) before
+  pub mpidrs-are :
+      firstFault (cpuFault b) (nodeCount (b .nodes)) .number ≡ 0 → map (λ i. mpidrReadings i .value) (cpuList b) ≡ map (mpidrAt b) (cpuList b)
   unfolding readingFrom readingOf hasValue mpidrOf cpuFault
-  mpidrs-read before =
-      listed-read (isCpu (b .nodes) (b .pool)) mpidrReadings 13
+  mpidrs-are =
+      listed-numbers (isCpu (b .nodes) (b .pool)) mpidrReadings 13
       (λ i s. typeFault (typed i) (mpidrs i) s)
       (λ j i. sameMpidr (mpidrs j) (mpidrs i))
       (λ i. mpidr-sound (typed i) (mpidrs i))
       (λ i. mpidr-broken (typed i) (mpidrs i))
       (λ i j. mpidr-agree (typed i) (typed j) (mpidrs i) (mpidrs j))
-      (mpidrAt b) (nodeCount (b .nodes)) before
+      (mpidrAt b) (nodeCount (b .nodes))
       (λ i. mpidr-value (typed i) (mpidrs i))
 
 -- the reading of a phandle, and what the stage of rule 17 tells of it
@@ -232,9 +241,9 @@ phandle-agree (Is h) (Is k) a b = refl
 phandle-agree (Is h) Not a b = absurd (omega arith)
 phandle-agree Not y a b = absurd (omega arith)
 
-phandle-value : (x : Cell) → phandleReading x .number ≡ 0 → phandleReading x .value ≡ cellNumber x
-phandle-value (Is h) z = refl
-phandle-value Not z = absurd (omega arith)
+phandle-value : (x : Cell) → phandleReading x .value ≡ cellNumber x
+phandle-value (Is h) = refl
+phandle-value Not = refl
 
 module _ (nodes props pool : List ℕ) where
   abbrev phandles : ℕ → Cell
@@ -252,17 +261,7 @@ module _ (nodes props pool : List ℕ) where
       (λ i j. phandle-agree (phandles i) (phandles j))
       (nodeCount nodes)
 
-  pub phandles-read :
-      (before : List ℕ) →
-      firstFault (phandleFault nodes props pool) (nodeCount nodes) .number ≡ 0 →
-      numbersOver (readingOf Phandles props pool) 17 (listBelow (isCpu nodes pool) (nodeCount nodes)) before ≡ over (phandleList nodes props pool) before
-  unfolding readingFrom readingOf cellOf phandleOf phandleFault
-  phandles-read before =
-      listed-read (isCpu nodes pool) (readingOf Phandles props pool) 17
-      (λ i s. cellFault s (phandles i))
-      (λ j i. sameCell (phandles j) (phandles i))
-      (λ i. phandle-sound (phandles i))
-      (λ i. phandle-broken (phandles i))
-      (λ i j. phandle-agree (phandles i) (phandles j))
-      (λ i. cellNumber (phandles i)) (nodeCount nodes) before
-      (λ i. phandle-value (phandles i))
+  pub phandles-are : map (λ i. readingOf Phandles props pool i .value) (listBelow (isCpu nodes pool) (nodeCount nodes)) ≡ phandleList nodes props pool
+  unfolding readingFrom readingOf cellOf phandleOf
+  phandles-are =
+      ap (λ (g : ℕ → ℕ). map g (listBelow (isCpu nodes pool) (nodeCount nodes))) (fun-ext (λ i. phandle-value (phandles i)))

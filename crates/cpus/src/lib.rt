@@ -36,7 +36,7 @@ pub enum Wanted {
 }
 
 // What a cpu record breaks, 0 where nothing, and its number.
-struct Reading {
-    number: u32,
-    value: u64,
+pub struct Reading {
+    pub number: u32,
+    pub value: u64,
 }

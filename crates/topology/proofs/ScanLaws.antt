@@ -100,16 +100,16 @@ scan-listed t records e =
     rw (e, first-listed (isCpu (t .nodes) (t .pool)) (λ k _. cond (namedBelow t (nodeCount (t .nodes)) k) 0 26) (nodeCount (t .nodes)))
 
 -- where no rule is broken, the lent arrays hold all leaves, of which there are few
-module _ (t : Tree) (z : leavesFault t .number ≡ 0) where
+module _ (t : Tree) (records : List ℕ) (z : scanFault t records .number ≡ 0) where
   few-clear : (length (t .phandles) ≤ maxCpus) × (firstFault (treeFault t) (nodeCount (t .nodes)) ≡ clear)
-  unfolding leavesFault
+  unfolding scanFault
   few-clear = go (ltb maxCpus (length (t .phandles))) refl z
     where
       first : Fault
       first = firstFault (treeFault t) (nodeCount (t .nodes))
 
       last : Fault
-      last = firstFault (unmappedFault t) (nodeCount (t .nodes))
+      last = toldOf records (firstFault (λ k. cond (namedBelow t (nodeCount (t .nodes)) k) 0 26) (length records))
 
       go : (b : Bool) → ltb maxCpus (length (t .phandles)) ≡ b → cond b (told 10 0) (orElse first last) .number ≡ 0 → (length (t .phandles) ≤ maxCpus) × (first ≡ clear)
       go true e q = absurd (omega arith)
