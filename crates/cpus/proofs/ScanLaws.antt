@@ -188,8 +188,7 @@ module _ (b : Board) where
   abbrev mpidrs : ℕ → Mpidr
   mpidrs = mpidrOf (b .props) (b .pool) (addressCells b)
 
-  -- the readings of the cpu records
-  abbrev pub mpidrReadings : ℕ → Reading
+  abbrev mpidrReadings : ℕ → Reading
   mpidrReadings = readingOf (Mpidrs (addressCells b)) (b .props) (b .pool)
 
   pub mpidrs-told : firstRecord mpidrReadings 13 (cpuList b) ≡ firstFault (cpuFault b) (nodeCount (b .nodes))

@@ -30,7 +30,7 @@ enum Mpidr {
 }
 
 // The number of each cpu record to gather: its MPIDR of so many address cells, or its phandle.
-enum Wanted {
+pub enum Wanted {
     Mpidrs(usize),
     Phandles,
 }

@@ -1,11 +1,11 @@
 -- `gather` meets its contract: the pass holds before each record. Assumes nothing.
-use Rattle.cpus.proofs.GatherLaws.{Pass, pass-start, pass-length, pass-next, pass-told, pass-end}
-use Rattle.cpus.specs.Gather.{readingAt, repeatRule}
+use mathlib.Core.Path.{_≡_, refl, sym}
+use Prim.Native.Nat.{_-_, _≤_}
+use native.Mathlib.Omega.{arith}
 use lib.ListN.{length}
 use lib.Seq.{length-take-le}
-use native.Mathlib.Omega.{arith}
-use Prim.Native.Nat.{_-_, _≤_}
-use mathlib.Core.Path.{_≡_, refl, sym, _∙_}
+use Rattle.cpus.specs.Gather.{readingAt, repeatRule}
+use Rattle.cpus.proofs.GatherLaws.{Pass, pass-start, pass-length, pass-next, pass-told, pass-end}
 use borrow.Author.Needs.{needs}
 use Rattle.cpus.proofs.gather.gather.Statement.{statement}
 use Rattle.cpus.proofs.gather.gather.Tie as tie

@@ -1,6 +1,6 @@
 -- `is_child` meets its contract. Assumes nothing.
-use Rattle.cpus.specs.Check.{isChild}
 use borrow.Author.Tests.{lt-ltb, le-ltb, eq-eqb, ne-eqb}
+use Rattle.cpus.specs.Check.{isChild}
 use borrow.Author.Needs.{needs}
 use Rattle.cpus.proofs.node.is_child.Statement.{statement}
 use Rattle.cpus.proofs.node.is_child.Tie as tie

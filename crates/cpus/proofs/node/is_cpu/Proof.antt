@@ -1,13 +1,12 @@
 -- `is_cpu` meets its contract: a child of record 0 is in the table. Assumes nothing.
-use Rattle.cpus.specs.Check.{isChild, isCpu}
-use Rattle.tables.specs.Board.{nodeCount}
-use Rattle.laws.proofs.TestLaws.{both-true}
-use borrow.Author.Tests.{ltb-true}
-use native.Mathlib.Omega.{arith}
+use mathlib.Core.Path.{_≡_, sym, _∙_}
 use mathlib.Core.Bool.{true}
 use mathlib.Core.List.{List}
 use Prim.Native.Nat.{ℕ, _<_}
-use mathlib.Core.Path.{_≡_, sym, _∙_}
+use borrow.Author.Tests.{ltb-true}
+use Rattle.laws.proofs.TestLaws.{both-true}
+use Rattle.tables.specs.Board.{nodeCount}
+use Rattle.cpus.specs.Check.{isChild, isCpu}
 use borrow.Author.Needs.{needs}
 use Rattle.cpus.proofs.node.is_cpu.Statement.{statement}
 use Rattle.cpus.proofs.node.is_cpu.Tie as tie

@@ -1,14 +1,14 @@
 -- `is_cpu_name` meets its contract: a name of four bytes or more is not `cpu`, and its first four are tested as a cell. Assumes nothing.
-use mathlib.Core.Path.{_≡_, refl, sym, _∙_}
+use mathlib.Core.Path.{_≡_, refl, _∙_}
 use mathlib.Core.Bool.{Bool, true, false, cond}
 use native.Mathlib.Omega.{arith}
 use borrow.Author.Tests.{lt-ltb, le-ltb}
-use borrow.Author.Needs.{needs}
 use Rattle.tables.specs.Board.{rangeIs}
 use Rattle.tables.proofs.CodePool.{other-length}
 use Rattle.tables.proofs.CellLaws.{cell-is}
 use Rattle.cpus.specs.Words.{cpuWord}
 use Rattle.cpus.specs.Check.{isCpuName}
+use borrow.Author.Needs.{needs}
 use Rattle.cpus.proofs.node.is_cpu_name.Statement.{statement}
 use Rattle.cpus.proofs.node.is_cpu_name.Tie as tie
 

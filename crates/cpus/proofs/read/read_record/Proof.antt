@@ -1,12 +1,12 @@
 -- `read_record` meets its contract: each answer is the definition's for what is wanted. Assumes nothing.
-use Rattle.cpus.proofs.CodeLaws.{string-cell}
-use Rattle.cpus.specs.Gather.{readingFrom}
-use Rattle.cpus.specs.Cell.{cellIn, valueIn, isCpuString}
-use Rattle.cpus.specs.Words.{cpuString}
+use mathlib.Core.Path.{_≡_, sym, ap, _∙_}
+use native.Mathlib.Omega.{arith}
 use Rattle.keys.specs.Index.{keyAt}
 use Rattle.keys.specs.declared.Key.the-variants.{DeviceType}
-use native.Mathlib.Omega.{arith}
-use mathlib.Core.Path.{_≡_, sym, ap, _∙_}
+use Rattle.cpus.specs.Words.{cpuString}
+use Rattle.cpus.specs.Cell.{cellIn, valueIn, isCpuString}
+use Rattle.cpus.specs.Gather.{readingFrom}
+use Rattle.cpus.proofs.CodeLaws.{string-cell}
 use borrow.Author.Needs.{needs}
 use Rattle.cpus.proofs.read.read_record.Statement.{statement}
 use Rattle.cpus.proofs.read.read_record.Tie as tie

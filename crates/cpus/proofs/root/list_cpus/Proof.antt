@@ -1,15 +1,15 @@
 -- `list_cpus` meets its contract: so many of the records passed are cpu records, and they are listed. Assumes nothing.
-use Rattle.cpus.proofs.CodeLaws.{listed-yes, listed-no}
-use Rattle.cpus.specs.Check.{isCpu}
-use Rattle.tables.specs.Board.{nodeCount}
-use Rattle.laws.proofs.ListedLaws.{over-none}
-use Rattle.laws.proofs.SearchLaws.{count-yes, count-no, count-le}
+use mathlib.Core.Path.{_≡_, refl, sym, ap, _∙_}
+use Prim.Native.Nat.{ℕ, _+_, _-_, _≤_}
+use native.Mathlib.Omega.{arith}
+use borrow.Author.Tests.{not-true, not-false}
 use Rattle.laws.specs.Listed.{over}
 use Rattle.laws.specs.Search.{countBelow, listBelow}
-use borrow.Author.Tests.{not-true, not-false}
-use native.Mathlib.Omega.{arith}
-use Prim.Native.Nat.{ℕ, _+_, _-_, _≤_}
-use mathlib.Core.Path.{_≡_, refl, sym, ap, _∙_}
+use Rattle.laws.proofs.ListedLaws.{over-none}
+use Rattle.laws.proofs.SearchLaws.{count-yes, count-no, count-le}
+use Rattle.tables.specs.Board.{nodeCount}
+use Rattle.cpus.specs.Check.{isCpu}
+use Rattle.cpus.proofs.CodeLaws.{listed-yes, listed-no}
 use borrow.Author.Needs.{needs}
 use Rattle.cpus.proofs.root.list_cpus.Statement.{statement}
 use Rattle.cpus.proofs.root.list_cpus.Tie as tie

@@ -1,6 +1,6 @@
 -- `put_record` meets its contract. Assumes nothing.
-use lib.Seq.{set-out}
 use mathlib.Core.Path.{sym}
+use lib.Seq.{set-out}
 use borrow.Author.Needs.{needs}
 use Rattle.cpus.proofs.root.put_record.Statement.{statement}
 use Rattle.cpus.proofs.root.put_record.Tie as tie

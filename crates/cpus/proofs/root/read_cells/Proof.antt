@@ -1,9 +1,9 @@
 -- `read_cells` meets its contract: each answer is the definition's at what its tests give. Assumes nothing.
-use Rattle.cpus.proofs.CodeLaws.{allowed-cells, other-cells}
+use mathlib.Core.Path.{sym, _∙_}
+use borrow.Author.Tests.{not-true, not-false}
 use Rattle.tables.specs.Board.{board}
 use Rattle.cpus.specs.Check.{soundCells, rootFault, addressCells}
-use borrow.Author.Tests.{not-true, not-false}
-use mathlib.Core.Path.{sym, _∙_}
+use Rattle.cpus.proofs.CodeLaws.{allowed-cells, other-cells}
 use borrow.Author.Needs.{needs}
 use Rattle.cpus.proofs.root.read_cells.Statement.{statement}
 use Rattle.cpus.proofs.root.read_cells.Tie as tie

@@ -1,6 +1,6 @@
 -- `cell_in` meets its contract: each answer is the definition's at what was found. Assumes nothing.
-use Rattle.cpus.specs.declared.Cell.the-variants.{Is}
 use mathlib.Core.Path.{sym, ap, _∙_}
+use Rattle.cpus.specs.declared.Cell.the-variants.{Is}
 use borrow.Author.Needs.{needs}
 use Rattle.cpus.proofs.value.cell_in.Statement.{statement}
 use Rattle.cpus.proofs.value.cell_in.Tie as tie

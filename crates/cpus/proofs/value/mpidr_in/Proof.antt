@@ -1,6 +1,6 @@
 -- `mpidr_in` meets its contract: each answer is the definition's at what was found. Assumes nothing.
-use Rattle.cpus.proofs.CodeLaws.{sized-inside}
 use mathlib.Core.Path.{sym, _∙_}
+use Rattle.cpus.proofs.CodeLaws.{sized-inside}
 use borrow.Author.Needs.{needs}
 use Rattle.cpus.proofs.value.mpidr_in.Statement.{statement}
 use Rattle.cpus.proofs.value.mpidr_in.Tie as tie
