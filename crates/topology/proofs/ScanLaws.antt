@@ -20,7 +20,7 @@ use Rattle.tables.specs.Board.{nodeCount}
 use Rattle.cpus.specs.Check.{isCpu}
 use Rattle.cpus.specs.Rules.{maxCpus}
 use Rattle.topology.specs.declared.TreeScan.{TreeScan}
-use Rattle.topology.specs.Scan.{Tree, cpuOf, namedBelow, treeFault, unmappedFault, leavesFault, leafList, answered, scanFault, treeScan, passed, leavesOver, namedOver}
+use Rattle.topology.specs.Scan.{Tree, cpuOf, namedBelow, treeFault, unmappedFault, leavesFault, leafList, scanned, scanFault, treeScan, passed, leavesOver, namedOver}
 use Rattle.topology.specs.Pass.{Marked, leafScan, unmarkedFault}
 use Rattle.topology.proofs.LeafCount.{leaves-fit}
 use Rattle.topology.proofs.GatherLaws.{marked-is}
@@ -51,7 +51,7 @@ module _ (t : Tree) (records : List ℕ) where
   many-told lt = rw (lt-ltb maxCpus (length (t .phandles)) lt)
 
   module _ (few : length (t .phandles) ≤ maxCpus) {s : TreeScan} (e : s ≡ leafScan t) where
-    stages : answered t (orElse first last) ≡ treeScan t records
+    stages : scanned t (orElse first last) ≡ treeScan t records
     unfolding treeScan scanFault
     stages = rw (le-ltb maxCpus (length (t .phandles)) few)
 
@@ -61,7 +61,7 @@ module _ (t : Tree) (records : List ℕ) where
 
     pub first-told : (s .number ≡ 0 → ⊥) → s ≡ treeScan t records
     unfolding leafScan
-    first-told ne = e ∙ ap (answered t) (sym (or-first first last (λ z. ne (number-is ∙ z)))) ∙ stages
+    first-told ne = e ∙ ap (scanned t) (sym (or-first first last (λ z. ne (number-is ∙ z)))) ∙ stages
 
     -- no record breaks rules 18 to 25
     module _ (z : s .number ≡ 0) where
@@ -76,15 +76,15 @@ module _ (t : Tree) (records : List ℕ) where
           h ∙ ap (toldOf records) (first-same (unmarkedFault marks) (λ k. cond (namedBelow t (nodeCount (t .nodes)) k) 0 26) (length records) (λ k lt _. ap (λ (b : Bool). cond b 0 26) (marked-is t all k)))
 
       module _ {f : Fault} (h : f ≡ last) where
-        second : answered t f ≡ treeScan t records
-        second = ap (answered t) (h ∙ sym (or-second first last first-zero)) ∙ stages
+        second : scanned t f ≡ treeScan t records
+        second = ap (scanned t) (h ∙ sym (or-second first last first-zero)) ∙ stages
 
         pub last-told : (f .number ≡ 0 → ⊥) → record { number = f .number; place = f .place; count = 0 } ≡ treeScan t records
         last-told ne = sym (rw (ne-eqb (f .number) 0 ne)) ∙ second
 
         pub last-clear : f .number ≡ 0 → s ≡ treeScan t records
         unfolding leafScan
-        last-clear y = e ∙ ap (answered t) (first-clears (treeFault t) (nodeCount (t .nodes)) first-zero ∙ sym clears) ∙ second
+        last-clear y = e ∙ ap (scanned t) (first-clears (treeFault t) (nodeCount (t .nodes)) first-zero ∙ sym clears) ∙ second
           where
             told-clear : (v i : ℕ) → told v i .number ≡ 0 → told v i ≡ clear
             told-clear zero i q = refl

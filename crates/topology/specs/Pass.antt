@@ -10,7 +10,7 @@ use Rattle.tables.specs.Board.{nodeCount}
 use Rattle.cpus.specs.Rules.{maxCpus}
 use Rattle.topology.specs.declared.RecordCheck.{RecordCheck}
 use Rattle.topology.specs.declared.TreeScan.{TreeScan}
-use Rattle.topology.specs.Scan.{Tree, namedBelow, treeFault, answered, passed, leavesOver, namedOver}
+use Rattle.topology.specs.Scan.{Tree, namedBelow, treeFault, scanned, passed, leavesOver, namedOver}
 
 -- whether a table of marks has cpu k marked
 abbrev pub isMarked : List ℕ → ℕ → Bool
@@ -33,7 +33,7 @@ checkedFault marks r = orNumber (r .number) (cond (r .leaf) (cond (isMarked mark
 
 -- how many leaves there are, or the first of rules 18 to 25 that is broken
 unfoldable pub leafScan : Tree → TreeScan
-leafScan t = answered t (firstFault (treeFault t) (nodeCount (t .nodes)))
+leafScan t = scanned t (firstFault (treeFault t) (nodeCount (t .nodes)))
 
 -- rule 26 of the cpu with index k: it is not marked
 unfoldable pub unmarkedFault : List ℕ → ℕ → ℕ

@@ -64,9 +64,9 @@ leavesFault t =
 abbrev pub leafList : Tree → List ℕ
 leafList t = listBelow (isLeaf t) (nodeCount (t .nodes))
 
--- what is answered where a fault is found: it, or the number of leaves where it tells nothing
-abbrev pub answered : Tree → Fault → TreeScan
-answered t f = record { number = f .number; place = f .place; count = cond (eqb (f .number) 0) (length (leafList t)) 0 }
+-- what the scan answers where it finds a fault: that, or the number of leaves where it tells nothing
+abbrev pub scanned : Tree → Fault → TreeScan
+scanned t f = record { number = f .number; place = f .place; count = cond (eqb (f .number) 0) (length (leafList t)) 0 }
 
 -- the first of rules 18 to 26 that is broken, rule 26 told of a list of cpu records; 10 where there are too many phandles
 unfoldable pub scanFault : Tree → List ℕ → Fault
@@ -77,7 +77,7 @@ scanFault t records =
 
 -- how many leaves there are, or the first of rules 18 to 26 that is broken
 unfoldable pub treeScan : Tree → List ℕ → TreeScan
-treeScan t records = answered t (scanFault t records)
+treeScan t records = scanned t (scanFault t records)
 
 -- the records before the first that breaks rules 18 to 25
 abbrev pub passed : Tree → ℕ
