@@ -6,7 +6,7 @@ use native.Mathlib.Omega.{arith}
 use lib.ListN.{length, take, replicate, length-replicate}
 use lib.Seq.{length-take-le}
 use Rattle.laws.specs.Listed.{over}
-use Rattle.laws.proofs.ListedLaws.{over-length, over-front}
+use Rattle.laws.proofs.OverLaws.{over-length, over-front}
 use Rattle.cpus.specs.Rules.{maxCpus}
 
 module _ (l : List ℕ) {array : List ℕ} {n : ℕ} (laid : array ≡ over l (replicate 256 0)) (count : n ≡ length l) (few : length l ≤ maxCpus) where

@@ -69,10 +69,6 @@ module _ (b : Board) (room : ℕ) where
   abbrev pub fromCpus : Fault
   fromCpus = orElse (cpusFault b) fromMap
 
-  pub from-tables : boardFault b room ≡ orElse (tableFault b) fromCpus
-  unfolding boardFault
-  from-tables = refl
-
 -- at most 256 cpu records, once rules 9 and 10 have passed
 pub few-cpus : (b : Board) → cpusFault b .number ≡ 0 → cpuCount b ≤ 256
 unfolding cpusFault

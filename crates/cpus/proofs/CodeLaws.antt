@@ -1,18 +1,12 @@
 -- What the proofs of the code cite of the definitions. Assumes nothing.
 use mathlib.Core.Path.{_≡_, refl, sym, ap, ap₂, _∙_}
 use mathlib.Core.Bool.{Bool, true, false, cond}
-use mathlib.Core.Logic.{⊎-elim}
-use mathlib.Core.List.{List, [], _∷_, _++_}
+use mathlib.Core.List.{List}
 use Prim.Native.Nat.{ℕ, zero, suc, _+_, _*_, _≤_, _<_}
 use native.Mathlib.Omega.{arith}
 use lib.Dec.{leb, eqb}
-use lib.ListN.{length, getD, set}
-use lib.Seq.{set-out}
+use lib.ListN.{length, getD}
 use borrow.Author.Tests.{eq-eqb, ne-eqb, eqb-true, eqb-false, leb-true}
-use Rattle.laws.specs.Search.{countBelow, listBelow}
-use Rattle.laws.specs.Listed.{over}
-use Rattle.laws.proofs.SearchLaws.{lt-or-le, list-yes, list-no, list-length}
-use Rattle.laws.proofs.ListedLaws.{over-length, over-push, over-full}
 use Rattle.laws.proofs.TestLaws.{both-true}
 use Rattle.tables.specs.declared.Lookup.{Lookup}
 use Rattle.tables.specs.declared.Lookup.the-variants.{At, Missing}
@@ -69,22 +63,3 @@ allowed-cells (suc n) = rw (ne-eqb (suc n) 0 (λ z. omega arith))
 pub other-cells : (n : ℕ) → 0 ≡ cond (eqb (cond (eqb n 0) 9 9) 0) n 0
 other-cells zero = refl
 other-cells (suc n) = rw (ne-eqb (suc n) 0 (λ z. omega arith))
-
--- the element after a list over a buffer is set, if there is room for it
-pub over-add : (l before : List ℕ) (x k : ℕ) → length l ≡ k → set (over l before) k x ≡ over (l ++ (x ∷ [])) before
-over-add l before x k long =
-    ⊎-elim
-    (over-push l before x k long)
-    (λ full. set-out (over l before) k x (rw (over-length l before) full) ∙ sym (over-full l before x (rw long full)))
-    (lt-or-le k (length before))
-
--- the places that pass a test, listed over a buffer: one place more
-module _ (p : ℕ → Bool) (i : ℕ) {count : ℕ} {list : List ℕ} (before : List ℕ) (counted : count ≡ countBelow p i) (listed : list ≡ over (listBelow p i) before) where
-  pub listed-yes : p i ≡ true → set list count i ≡ over (listBelow p (i + 1)) before
-  listed-yes e =
-      ap (λ (l : List ℕ). set l count i) listed
-      ∙ over-add (listBelow p i) before i count (list-length p i ∙ sym counted)
-      ∙ ap (λ (l : List ℕ). over l before) (sym (list-yes p i e))
-
-  pub listed-no : p i ≡ false → list ≡ over (listBelow p (i + 1)) before
-  listed-no e = listed ∙ ap (λ (l : List ℕ). over l before) (sym (list-no p i e))

@@ -14,7 +14,7 @@ use Rattle.laws.specs.Fault.{clear, firstFault}
 use Rattle.laws.specs.Search.{isAmong}
 use Rattle.laws.specs.Listed.{over, toldOf, passedOf}
 use Rattle.laws.proofs.FaultLaws.{told-at, clear-more, at-fault, at-end}
-use Rattle.laws.proofs.ListedLaws.{over-none, over-length, over-front, over-push}
+use Rattle.laws.proofs.OverLaws.{over-none, over-length, over-front, over-push}
 use Rattle.cpus.specs.declared.Reading.{Reading}
 use Rattle.cpus.specs.Gather.{unlessSeen, listedFault, firstIndex, firstRecord, numbersOver, numbersFault, numbersAfter}
 

@@ -3,7 +3,6 @@ use mathlib.Core.Path.{_≡_, refl, sym, ap, _∙_}
 use mathlib.Core.Bool.{Bool, true, false, cond}
 use mathlib.Core.List.{List, [], _∷_, _++_, map, map-append}
 use Prim.Native.Nat.{ℕ, zero, suc, _+_, _≤_, _<_}
-use native.Mathlib.Decide.{le-ind}
 use native.Mathlib.Omega.{arith}
 use lib.Dec.{eqb}
 use lib.ListN.{length, getD, take, set, length-append, length-map, List·getD-append}
@@ -11,10 +10,8 @@ use lib.Seq.{getD-append-seam}
 use Rattle.laws.specs.Search.{anyBelow, countBelow, listBelow}
 use Rattle.laws.specs.declared.Fault.{Fault}
 use Rattle.laws.specs.Fault.{firstFault, told, orElse}
-use Rattle.laws.specs.Pad.{padded}
 use Rattle.laws.proofs.SearchLaws.{list-yes, list-length}
 use Rattle.laws.proofs.FaultLaws.{first-is, or-first}
-use Rattle.laws.proofs.PadLaws.{pad-push, pad-take}
 use borrow.Author.Tests.{eqb-true, eqb-false}
 
 -- tests that agree below n
@@ -35,19 +32,6 @@ seen-more l x m =
     ∙ rw (getD-append-seam l x [] 0, any-same (λ k. eqb (getD (l ++ (x ∷ [])) k 0) m) (λ k. eqb (getD l k 0) m) (length l) (λ k lt. rw (List·getD-append l (x ∷ []) 0 k lt)))
 
 module _ (p : ℕ → Bool) where
-  -- a place that passes is counted
-  pub count-mono : (m n : ℕ) → m ≤ n → countBelow p m ≤ countBelow p n
-  unfolding countBelow
-  count-mono m n le = le-ind (λ (k : ℕ). countBelow p m ≤ countBelow p k) (omega arith) (λ k _ h. step k (p k) h) n le
-    where
-      step : (k : ℕ) (b : Bool) → countBelow p m ≤ countBelow p k → countBelow p m ≤ cond b (suc (countBelow p k)) (countBelow p k)
-      step k true h = omega arith
-      step k false h = h
-
-  pub count-at : (i n : ℕ) → i < n → p i ≡ true → countBelow p i < countBelow p n
-  unfolding countBelow
-  count-at i n lt e = let h : countBelow p (suc i) ≤ countBelow p n = count-mono (suc i) n lt in rw e at h
-
   -- the number m among those of the places that pass is the number of such a place
   pub gathered-seen :
       (g : ℕ → ℕ) (q : ℕ → Bool) (m n : ℕ) →
@@ -68,30 +52,13 @@ module _ (p : ℕ → Bool) where
           ∙ rw (h n (omega arith) e, ih)
       go false e ih = ih
 
-  -- the numbers of the places that pass: how many, one place more, and the front of an array that holds them
+  -- the numbers of the places that pass: how many, and one place more
   module _ (g : ℕ → ℕ) where
     pub gathered-length : (i : ℕ) → length (map g (listBelow p i)) ≡ countBelow p i
     gathered-length i = length-map (listBelow p i) g ∙ list-length p i
 
     pub gathered-more : (i : ℕ) → p i ≡ true → map g (listBelow p (i + 1)) ≡ map g (listBelow p i) ++ (g i ∷ [])
     gathered-more i e = ap (map g) (list-yes p i e) ∙ map-append g (listBelow p i) (i ∷ [])
-
-    pub gathered-front :
-        (size i count : ℕ) → count ≡ countBelow p i → count ≤ size → take count (padded size (map g (listBelow p i))) ≡ map g (listBelow p i)
-    gathered-front size i count c le =
-        let l = map g (listBelow p i) in
-        let long : length l ≡ count = gathered-length i ∙ sym c in
-        ap (λ (k : ℕ). take k (padded size l)) (sym long) ∙ pad-take size l (omega arith)
-
-    -- one place more that passes, its number set after those gathered
-    pub gather-more :
-        (size i count : ℕ) →
-        p i ≡ true →
-        count ≡ countBelow p i →
-        count < size →
-        set (padded size (map g (listBelow p i))) count (g i) ≡ padded size (map g (listBelow p (i + 1)))
-    gather-more size i count e c lt =
-        pad-push size (map g (listBelow p i)) (map g (listBelow p (i + 1))) (g i) count (gathered-more i e) (gathered-length i ∙ sym c) lt
 
   -- numbers that agree at each place that passes
   pub map-below :

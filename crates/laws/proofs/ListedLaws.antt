@@ -1,4 +1,4 @@
--- A list laid over a buffer; the places that pass a test, by their index, and the first of them that breaks a rule. Assumes nothing.
+-- The places that pass a test, listed: those before one of them, and the first that breaks a rule. Assumes nothing.
 use mathlib.Core.Path.{_≡_, refl, sym, ap, _∙_}
 use mathlib.Core.Bool.{Bool, true, false, cond}
 use mathlib.Core.Logic.{⊎-elim}
@@ -13,93 +13,37 @@ use borrow.Author.Tests.{eqb-true, ne-eqb}
 use Rattle.laws.specs.declared.Fault.{Fault}
 use Rattle.laws.specs.Fault.{clear, told, orElse, firstFault}
 use Rattle.laws.specs.Search.{countBelow, listBelow}
-use Rattle.laws.specs.Listed.{over, toldOf}
+use Rattle.laws.specs.Listed.{toldOf}
 use Rattle.laws.proofs.SearchLaws.{list-length}
 use Rattle.laws.proofs.FaultLaws.{first-is}
 use Rattle.laws.proofs.GatherLaws.{first-same}
 
--- what fits is followed by what the buffer held
-pub over-fits : (l before : List ℕ) → length l ≤ length before → over l before ≡ l ++ drop (length l) before
-unfolding over
-over-fits l before le = take-all (length before) (l ++ drop (length l) before) (simp (length-append, length-drop) (omega arith))
+-- the places before one that passes are those below it: one place more at the end
+before-more :
+    (p : ℕ → Bool) (l : List ℕ) (x k : ℕ) → k < length l → take k l ≡ listBelow p (getD l k 0) → take k (l ++ (x ∷ [])) ≡ listBelow p (getD (l ++ (x ∷ [])) k 0)
+before-more p l x k lt h = rw (List·getD-append l (x ∷ []) 0 k lt) (take-append-le k l (x ∷ []) (omega arith) ∙ h)
 
-pub over-length : (l before : List ℕ) → length (over l before) ≡ length before
-unfolding over
-over-length l before = length-take-le (length before) (l ++ drop (length l) before) (simp (length-append, length-drop) (omega arith))
+before-last : (p : ℕ → Bool) (n k : ℕ) → k ≡ length (listBelow p n) → take k (listBelow p n ++ (n ∷ [])) ≡ listBelow p (getD (listBelow p n ++ (n ∷ [])) k 0)
+before-last p n k q = rw (getD-at (listBelow p n) n [] 0 k (sym q)) (take-at (listBelow p n) (n ∷ []) k (sym q))
 
-pub over-none : (before : List ℕ) → over [] before ≡ before
-unfolding over
-over-none before = take-length before
-
--- the list is read back
-pub over-front : (l before : List ℕ) → length l ≤ length before → take (length l) (over l before) ≡ l
-over-front l before le = ap (λ (z : List ℕ). take (length l) z) (over-fits l before le) ∙ take-append-seam l (drop (length l) before)
-
--- the element after the list is set
-pub over-push : (l before : List ℕ) (x k : ℕ) → length l ≡ k → k < length before → set (over l before) k x ≡ over (l ++ (x ∷ [])) before
-over-push l before x k long lt =
-    let more : length (l ++ (x ∷ [])) ≡ suc (length l) = length-append l (x ∷ []) ∙ omega arith in
-    let rest = drop (suc (length l)) before in
-    ap (λ (z : List ℕ). set z k x) (over-fits l before (omega arith) ∙ ap (λ (z : List ℕ). l ++ z) (drop-cons before (length l) 0 (omega arith)))
-    ∙ set-at l (getD before (length l) 0) rest x k long
-    ∙ sym (append-snoc l x rest)
-    ∙ ap (λ (j : ℕ). (l ++ (x ∷ [])) ++ drop j before) (sym more)
-    ∙ sym (over-fits (l ++ (x ∷ [])) before (omega arith))
-
--- past the buffer's end nothing is kept
-over-cut : (l more before : List ℕ) → length before ≤ length l → over (l ++ more) before ≡ take (length before) l
-unfolding over
-over-cut l more before le =
-    let rest = drop (length (l ++ more)) before in
-    take-append-le (length before) (l ++ more) rest (simp length-append (omega arith)) ∙ take-append-le (length before) l more le
-
-pub over-full : (l before : List ℕ) (x : ℕ) → length before ≤ length l → over (l ++ (x ∷ [])) before ≡ over l before
-unfolding over
-over-full l before x le = over-cut l (x ∷ []) before le ∙ sym (take-append-le (length before) l (drop (length l) before) le)
-
--- the place at an index passes, so many places below it pass, and they stand before it
-record Placed (p : ℕ → Bool) (l : List ℕ) (k : ℕ) : Type 0 where
-  pub passes : p (getD l k 0) ≡ true
-  pub index : countBelow p (getD l k 0) ≡ k
-  pub earlier : take k l ≡ listBelow p (getD l k 0)
-
--- one place more at the end
-placed-more : (p : ℕ → Bool) (l : List ℕ) (x k : ℕ) → k < length l → Placed p l k → Placed p (l ++ (x ∷ [])) k
-placed-more p l x k lt h =
-    let same = List·getD-append l (x ∷ []) 0 k lt in
-    record { passes = rw same (h .passes); index = rw same (h .index); earlier = rw same (take-append-le k l (x ∷ []) (omega arith) ∙ h .earlier) }
-
-placed-last : (p : ℕ → Bool) (n k : ℕ) → p n ≡ true → k ≡ length (listBelow p n) → Placed p (listBelow p n ++ (n ∷ [])) k
-placed-last p n k e q =
-    let last = getD-at (listBelow p n) n [] 0 k (sym q) in
-    record { passes = rw last e; index = rw last (sym (q ∙ list-length p n)); earlier = rw last (take-at (listBelow p n) (n ∷ []) k (sym q)) }
-
-placed : (p : ℕ → Bool) (n k : ℕ) → k < length (listBelow p n) → Placed p (listBelow p n) k
+pub list-before : (p : ℕ → Bool) (n k : ℕ) → k < length (listBelow p n) → take k (listBelow p n) ≡ listBelow p (getD (listBelow p n) k 0)
 unfolding listBelow
-placed p zero k lt = absurd (omega arith)
-placed p (suc n) k lt = go (p n) refl (placed p n k) lt
+list-before p zero k lt = absurd (omega arith)
+list-before p (suc n) k lt = go (p n) refl (list-before p n k) lt
   where
     l : List ℕ
     l = listBelow p n
 
-    go : (b : Bool) → p n ≡ b → (k < length l → Placed p l k) → k < length (cond b (l ++ (n ∷ [])) l) → Placed p (cond b (l ++ (n ∷ [])) l) k
+    go :
+        (b : Bool) →
+        p n ≡ b →
+        (k < length l → take k l ≡ listBelow p (getD l k 0)) →
+        k < length (cond b (l ++ (n ∷ [])) l) →
+        take k (cond b (l ++ (n ∷ [])) l) ≡ listBelow p (getD (cond b (l ++ (n ∷ [])) l) k 0)
     go true e ih g =
         let size = length-append l (n ∷ []) in
-        ⊎-elim (placed-last p n k e) (λ q. placed-more p l n k q (ih q)) (eq-or-lt-of-le (le-of-suc-le-suc (let r : k < suc (length l) = omega arith in r)))
+        ⊎-elim (before-last p n k) (λ q. before-more p l n k q (ih q)) (eq-or-lt-of-le (le-of-suc-le-suc (let r : k < suc (length l) = omega arith in r)))
     go false e ih g = ih g
-
-module _ (p : ℕ → Bool) (n : ℕ) (k : ℕ) (lt : k < length (listBelow p n)) where
-  -- the place at index k passes the test
-  pub list-passes : p (getD (listBelow p n) k 0) ≡ true
-  list-passes = placed p n k lt .passes
-
-  -- its index is the number of lower places that pass
-  pub list-index : countBelow p (getD (listBelow p n) k 0) ≡ k
-  list-index = placed p n k lt .index
-
-  -- the places before it are those below it
-  pub list-before : take k (listBelow p n) ≡ listBelow p (getD (listBelow p n) k 0)
-  list-before = placed p n k lt .earlier
 
 -- a number told of an index is told of the member there
 told-at-index : (l : List ℕ) (v k n : ℕ) → getD l k 0 ≡ n → toldOf l (told v k) ≡ told v n

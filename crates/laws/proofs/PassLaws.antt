@@ -3,12 +3,8 @@ use mathlib.Core.Path.{_≡_, refl, sym, ap, _∙_}
 use mathlib.Core.Bool.{Bool, true, false, cond, not}
 use Prim.Native.Nat.{ℕ, zero, suc, _+_, _<_}
 use native.Mathlib.Omega.{arith}
-use lib.ListN.{length, set}
 use Rattle.laws.specs.Fault.{orNumber}
-use Rattle.laws.specs.Search.{lowest, countBelow, listBelow}
-use Rattle.laws.specs.Pad.{padded}
-use Rattle.laws.proofs.SearchLaws.{list-yes, list-length}
-use Rattle.laws.proofs.PadLaws.{pad-set}
+use Rattle.laws.specs.Search.{lowest, countBelow}
 use Rattle.laws.proofs.FaultLaws.{or-number-left, or-number-right}
 
 module _ (p : ℕ → Bool) where
@@ -21,15 +17,6 @@ module _ (p : ℕ → Bool) where
   unfolding countBelow
   count-none zero h = refl
   count-none (suc n) h = rw (h n (omega arith)) (count-none n (λ k lt. h k (omega arith)))
-
-  -- a place that passes, set after those listed
-  pub list-more :
-      (size i count : ℕ) → p i ≡ true → count ≡ countBelow p i → count < size → set (padded size (listBelow p i)) count i ≡ padded size (listBelow p (i + 1))
-  list-more size i count e c lt =
-      let long : length (listBelow p i) ≡ count = list-length p i ∙ sym c in
-      ap (λ (k : ℕ). set (padded size (listBelow p i)) k i) (sym long)
-      ∙ pad-set size (listBelow p i) i (omega arith)
-      ∙ ap (padded size) (sym (list-yes p i e))
 
 -- the first of two numbers is told, or else the second
 pub or-told : {v a : ℕ} (b : ℕ) → v ≡ a → (v ≡ 0 → ⊥) → v ≡ orNumber a b

@@ -22,7 +22,7 @@ use Rattle.cpus.specs.declared.Cell.{Cell}
 use Rattle.cpus.specs.Check.{isChild}
 use Rattle.topology.specs.declared.ClusterPath.{ClusterPath}
 use Rattle.topology.specs.declared.Position.{Position}
-use Rattle.topology.specs.Path.{gap, topologyName, noClusters, extend, clusterStep, clusterPath, socketStep, socketNumber, noPosition, positionStep, positionUnder, positionOf}
+use Rattle.topology.specs.Path.{gap, topologyName, noClusters, extend, clusterStep, clusterPath, socketStep, socketNumber, noPosition, positionStep, positionOf}
 use Rattle.topology.specs.Find.{mapOf, secondMapFault, mapFault, mapScan}
 use Rattle.topology.specs.Check.{hasChild, kindNumber, kindFault, numberFault, leafCpu, shapeFault, broken, leafCheck, isLeafName, mapRecordFault, mapRecordCheck}
 use Rattle.laws.proofs.PassLaws.{count-none}
@@ -89,18 +89,6 @@ module _ (nodes pool : List ℕ) (i : ℕ) where
   pub position-is : (p : ℕ) → parentOf nodes i ≡ Is p → positionStep (topologyName nodes pool i) (positionOf nodes pool p) ≡ positionOf nodes pool i
   unfolding positionOf
   position-is p h = ap₂ both (socket-is p h) (path-is p h)
-
-  pub position-above :
-      {parent : Parent} {name : TopologyName} {above : Position} →
-      parent ≡ parentOf nodes i →
-      name ≡ topologyName nodes pool i →
-      above ≡ positionOf nodes pool (parentWord nodes i) →
-      positionUnder parent name above ≡ positionOf nodes pool i
-  position-above e n a = rw (e, n, a) (go (parentOf nodes i) refl)
-    where
-      go : (p : Parent) → parentOf nodes i ≡ p → positionUnder p (topologyName nodes pool i) (positionOf nodes pool (parentWord nodes i)) ≡ positionOf nodes pool i
-      go (Is p) h = rw (parent-is nodes i p h .1) (position-is p h)
-      go Top h = position-none h
 
 -- a record has no more clusters above it than its number
 pub path-short : (nodes pool : List ℕ) (i : ℕ) → clusterPath nodes pool i .depth ≤ i

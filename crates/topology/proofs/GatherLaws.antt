@@ -16,10 +16,9 @@ use Rattle.laws.specs.Listed.{over}
 use Rattle.laws.proofs.SearchLaws.{lt-or-le, count-yes, count-no, list-no, list-length}
 use Rattle.laws.proofs.FaultLaws.{clear-more, at-fault, at-end}
 use Rattle.laws.proofs.GatherLaws.{gathered-length, gathered-more}
-use Rattle.laws.proofs.ListedLaws.{over-none}
+use Rattle.laws.proofs.OverLaws.{over-none, over-add, listed-yes, listed-no}
 use Rattle.tables.specs.Board.{nodeCount}
 use Rattle.cpus.specs.Rules.{maxCpus}
-use Rattle.cpus.proofs.CodeLaws.{over-add, listed-yes, listed-no}
 use Rattle.topology.specs.declared.RecordCheck.{RecordCheck}
 use Rattle.topology.specs.Scan.{Tree, check, isLeaf, cpuOf, namedBelow, treeFault, leafList, passed, leavesOver, namedOver}
 use Rattle.topology.specs.Pass.{isMarked, Marked, Left, checkedFault, leafScan}

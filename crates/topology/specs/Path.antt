@@ -64,8 +64,3 @@ positionStep name above = record { socket = socketStep name (above .socket); clu
 
 unfoldable pub positionOf : List ℕ → List ℕ → ℕ → Position
 positionOf nodes pool i = record { socket = socketNumber nodes pool i; clusters = clusterPath nodes pool i }
-
--- a record's position, where the record that its parent word names has the position `above`
-abbrev pub positionUnder : Parent → TopologyName → Position → Position
-positionUnder (Is p) name above = positionStep name above
-positionUnder Top name above = noPosition

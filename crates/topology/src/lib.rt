@@ -14,7 +14,6 @@ pub use kind::topology_number;
 pub use path::GAP;
 pub use path::topology_name;
 pub use positions::position_of;
-pub use positions::position_under;
 pub use scan::read_tree;
 
 // A cluster path: four numbers, outermost first, 0xFFFFFFFF where unused, and how many are used.

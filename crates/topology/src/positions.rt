@@ -8,7 +8,7 @@ use names::TopologyName;
 use tables::Parent;
 use tables::parent_of;
 ghost use mathlib.Core.Path.{_≡_};
-ghost use Rattle.topology.specs.Path.{socketStep, noPosition, positionStep, positionUnder, positionOf};
+ghost use Rattle.topology.specs.Path.{socketStep, noPosition, positionStep, positionOf};
 
 // A record's socket, from its name and its parent's socket.
 fn socket_step(name: TopologyName, above: u32) -> u32
@@ -40,16 +40,6 @@ fn position_step(name: TopologyName, above: Position) -> Position
     Position {
         socket: socket_step(name, above.socket),
         clusters: cluster_step(name, above.clusters),
-    }
-}
-
-// A record's position, from its parent, its name and the position of the record that its parent word names.
-pub fn position_under(parent: Parent, name: TopologyName, above: Position) -> Position
-    ensures { λ r. ⌜ r ≡ positionUnder parent name above ⌝ }
-{
-    match parent {
-        Parent::Is(_) => position_step(name, above),
-        Parent::Top => no_position(),
     }
 }
 

@@ -5,11 +5,10 @@ use native.Mathlib.Omega.{arith}
 use borrow.Author.Tests.{not-true, not-false}
 use Rattle.laws.specs.Listed.{over}
 use Rattle.laws.specs.Search.{countBelow, listBelow}
-use Rattle.laws.proofs.ListedLaws.{over-none}
+use Rattle.laws.proofs.OverLaws.{over-none, listed-yes, listed-no}
 use Rattle.laws.proofs.SearchLaws.{count-yes, count-no, count-le}
 use Rattle.tables.specs.Board.{nodeCount}
 use Rattle.cpus.specs.Check.{isCpu}
-use Rattle.cpus.proofs.CodeLaws.{listed-yes, listed-no}
 use borrow.Author.Needs.{needs}
 use Rattle.cpus.proofs.root.list_cpus.Statement.{statement}
 use Rattle.cpus.proofs.root.list_cpus.Tie as tie
