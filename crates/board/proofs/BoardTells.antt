@@ -3,12 +3,11 @@ use mathlib.Core.Path.{_≡_, refl, sym, ap, _∙_, subst}
 use mathlib.Core.Bool.{Bool, true, false, cond}
 use mathlib.Core.Logic.{inl, inr}
 use mathlib.Core.List.{List}
-use Prim.Native.Nat.{ℕ, zero, suc, _*_, _≤_, _<_}
+use Prim.Native.Nat.{ℕ, zero, suc, _*_}
 use native.Mathlib.Omega.{arith}
-use lib.Dec.{eqb, ltb}
+use lib.Dec.{ltb}
 use lib.ListN.{length}
 use borrow.Author.Tests.{ltb-true, ltb-false}
-use Rattle.laws.specs.declared.Fault.{Fault}
 use Rattle.laws.specs.Fault.{clear, told, orElse}
 use Rattle.laws.specs.Listing.{Listing}
 use Rattle.laws.proofs.ListingLaws.{listing-unique}
@@ -16,24 +15,20 @@ use Rattle.laws.proofs.FirstLaws.{Tells, end-tells}
 use Rattle.laws.proofs.RuleStageLaws.{Clears, Once, once-tells, else-clear}
 use Rattle.tables.specs.Board.{Board, Typed}
 use Rattle.tables.specs.Order.{stage}
-use Rattle.tables.specs.Rules.{TableRule, WellFormed}
+use Rattle.tables.specs.Rules.{WellFormed}
 use Rattle.tables.proofs.RuleLaws.{table-tells}
 use Rattle.cpus.specs.Node.{Cpu}
-use Rattle.cpus.specs.Rules.{CpuRule}
 use Rattle.cpus.specs.Check.{cpuCount, cpuList}
 use Rattle.cpus.proofs.CpuMeans.{cpu-listing, cpu-count}
 use Rattle.cpus.proofs.CpuTells.{cpus-tells, phandles-tells}
-use Rattle.topology.specs.Map.{Map}
-use Rattle.topology.specs.Rules.{MapRule}
 use Rattle.topology.specs.Scan.{leavesFault}
-use Rattle.topology.specs.Find.{mapOf}
 use Rattle.topology.proofs.MapMeans.{map-is}
 use Rattle.topology.proofs.MapTells.{map-tells}
 use Rattle.topology.proofs.CheckLeaf.{treeAt}
 use Rattle.topology.proofs.TreeTells.{tree-tells}
 use Rattle.rows.specs.Fits.{rowSize}
 use Rattle.board.specs.Rules.{Breaks}
-use Rattle.board.specs.Answer.{boardFault, roomFault, treeOf}
+use Rattle.board.specs.Answer.{boardFault, roomFault}
 use Rattle.board.proofs.StageLaws.{table-back, cpu-back, map-back, last-stage, stage-range}
 
 module _ {b : Board} (typed : Typed b) (room : ℕ) where

@@ -1,12 +1,12 @@
 -- No answer's place is above 4,096, and no count above 256. Assumes nothing.
-use mathlib.Core.Path.{_≡_, refl, sym, ap, _∙_}
+use mathlib.Core.Path.{_≡_, refl}
 use mathlib.Core.Bool.{Bool, true, false}
-use Prim.Native.Nat.{ℕ, _*_, _≤_, _<_}
+use Prim.Native.Nat.{ℕ, _≤_}
 use native.Mathlib.Nat.{le-trans}
 use native.Mathlib.Omega.{arith}
 use lib.Dec.{eqb}
 use borrow.Author.Tests.{eqb-true}
-use Rattle.laws.specs.Fault.{told, orElse, firstFault}
+use Rattle.laws.specs.Fault.{told, firstFault}
 use Rattle.laws.proofs.FaultLaws.{place-le}
 use Rattle.laws.proofs.OrElseLaws.{or-clear}
 use Rattle.laws.proofs.RuleStageLaws.{told-place, else-place}

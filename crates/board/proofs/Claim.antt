@@ -1,11 +1,11 @@
 -- Demands 1 and 3 of the definitions that the reading call's contract cites. Assumes nothing.
-use mathlib.Core.Path.{_≡_, refl, sym, ap, _∙_}
+use mathlib.Core.Path.{_≡_, refl, sym, _∙_}
 use mathlib.Core.Bool.{Bool, true, false}
 use mathlib.Core.Logic.{⊎-elim, _↔_}
 use mathlib.Core.List.{List}
-use Prim.Native.Nat.{ℕ, _+_, _*_, _^_, _≤_, _<_}
+use Prim.Native.Nat.{ℕ, _+_, _*_, _≤_, _<_}
 use native.Mathlib.Omega.{arith}
-use lib.ListN.{length, getD, take, drop}
+use lib.ListN.{length, take, drop}
 use lib.Dec.{eqb}
 use borrow.Author.Tests.{eq-eqb, ne-eqb, eqb-true, eqb-false}
 use Rattle.laws.proofs.SearchLaws.{lt-or-le}
@@ -21,7 +21,7 @@ use Rattle.topology.specs.Map.{Map}
 use Rattle.topology.specs.Rules.{MapRule}
 use Rattle.topology.specs.Find.{mapOf}
 use Rattle.topology.proofs.MapMeans.{map-of, no-map}
-use Rattle.rows.specs.Fits.{rowSize, Fits, Mpidrs}
+use Rattle.rows.specs.Fits.{rowSize, Fits}
 use Rattle.rows.specs.Write.{rowsBelow, written}
 use Rattle.rows.proofs.SourceMeans.{theSource, leafCount, LeafFacts, leaf-facts, leaf-count, mpidrs-of}
 use Rattle.rows.proofs.FitMeans.{rows-fit}
@@ -31,7 +31,7 @@ use Rattle.rows.proofs.WrittenLaws.{written-front, written-rest, written-length
 use Rattle.board.specs.declared.BoardAnswer.{BoardAnswer}
 use Rattle.board.specs.Rules.{Breaks, MapBroken, Room}
 use Rattle.board.specs.Answer.{boardFault, sourceOf, mpidrList, answerOf, rowsAfter}
-use Rattle.board.specs.Reading.{slotAt, Refused, Accepted, Reading, Demands}
+use Rattle.board.specs.Reading.{slotAt, Refused, Accepted, Demands}
 use Rattle.board.proofs.StageLaws.{CpuPlace, cpu-place, map-place, stage-range}
 use Rattle.board.proofs.BoardTells.{board-tells}
 

@@ -1,19 +1,19 @@
 -- What a reader that stops at the first fault answers. Assumes nothing.
-use mathlib.Core.Path.{_≡_, refl, sym, ap, _∙_, subst₂}
+use mathlib.Core.Path.{_≡_, refl, sym, ap, _∙_}
 use mathlib.Core.Bool.{Bool, true, false, cond}
 use mathlib.Core.List.{List, map}
-use Prim.Native.Nat.{ℕ, zero, suc, _*_, _≤_, _<_}
+use Prim.Native.Nat.{ℕ, _≤_}
 use native.Mathlib.Omega.{arith}
 use lib.Dec.{eqb, ltb}
-use lib.ListN.{length, take, length-map}
-use borrow.Author.Tests.{eq-eqb, ne-eqb, eqb-true, eqb-false, ltb-false, le-ltb, lt-ltb}
+use lib.ListN.{length}
+use borrow.Author.Tests.{eq-eqb, ne-eqb, eqb-true, ltb-false}
 use Rattle.laws.specs.declared.Fault.{Fault}
 use Rattle.laws.specs.Fault.{told, orElse, firstFault}
 use Rattle.laws.proofs.OrElseLaws.{told-number, or-clear, or-assoc}
 use Rattle.tables.specs.Board.{Board, Typed, nodeCount}
 use Rattle.tables.specs.Check.{tableFault}
 use Rattle.cpus.specs.Rules.{maxCpus}
-use Rattle.cpus.specs.Check.{cpuCount, cpuList, countFault, rootFault, cpuFault, cpusFault, phandlesFault}
+use Rattle.cpus.specs.Check.{cpuCount, countFault, rootFault, cpuFault, cpusFault, phandlesFault}
 use Rattle.topology.specs.declared.MapScan.{MapScan}
 use Rattle.topology.specs.Find.{mapOf, mapFault, mapScan}
 use Rattle.topology.specs.Scan.{leavesFault}

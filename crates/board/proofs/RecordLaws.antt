@@ -1,13 +1,11 @@
 -- The stages from rule 11 on, given the cpu records and a table of keys, tell what the board's stages tell. Assumes nothing.
-use mathlib.Core.Path.{_≡_, refl, sym, ap, ap₂, _∙_}
-use mathlib.Core.List.{List, map}
-use Prim.Native.Nat.{ℕ, _*_, _≤_, _<_}
+use mathlib.Core.Path.{_≡_, refl, ap, ap₂, _∙_}
+use mathlib.Core.List.{List}
+use Prim.Native.Nat.{ℕ, _≤_}
 use native.Mathlib.Omega.{arith}
 use lib.ListN.{length, replicate}
 use borrow.Author.Tests.{le-ltb}
-use Rattle.laws.specs.declared.Fault.{Fault}
-use Rattle.laws.specs.Fault.{told, orElse, firstFault}
-use Rattle.laws.proofs.OrElseLaws.{or-clear}
+use Rattle.laws.specs.Fault.{orElse, firstFault}
 use Rattle.tables.specs.Board.{Board, nodeCount}
 use Rattle.tables.specs.Property.{lookup}
 use Rattle.tables.specs.Rules.{WellFormed}
@@ -20,19 +18,18 @@ use Rattle.keys.proofs.IndexLaws.{index-finds}
 use Rattle.cpus.specs.declared.Reading.{Reading}
 use Rattle.cpus.specs.declared.Wanted.the-variants.{Mpidrs, Phandles}
 use Rattle.cpus.specs.Rules.{maxCpus}
-use Rattle.cpus.specs.Check.{addressCells, cpuCount, cpuList, cpuFault, phandlesFault, phandleList}
-use Rattle.cpus.specs.Gather.{readingAt, readingOf, firstRecord, numbersFault}
+use Rattle.cpus.specs.Check.{addressCells, cpuCount, cpuList, cpuFault, phandlesFault}
+use Rattle.cpus.specs.Gather.{readingAt, firstRecord, numbersFault}
 use Rattle.cpus.proofs.CpuMeans.{cpu-count}
 use Rattle.cpus.proofs.ScanLaws.{same-reading, mpidrs-told, mpidrs-are, phandles-told, phandles-are}
-use Rattle.topology.specs.Find.{mapOf, mapFault}
-use Rattle.topology.specs.Check.{keyCells, cpuCells}
-use Rattle.topology.specs.Scan.{Tree, tree, leavesFault}
+use Rattle.topology.specs.Find.{mapOf}
+use Rattle.topology.specs.Scan.{tree}
 use Rattle.topology.proofs.CellLaws.{same-cells}
 use Rattle.topology.proofs.ScanLaws.{scan-listed}
-use Rattle.board.specs.Answer.{roomFault, treeOf, mpidrList, sourceOf}
-use Rattle.board.specs.Stages.{numbersOf, recordsTree, fromTree, fromRecords, treeSource, recordsSource}
-use Rattle.board.proofs.OutcomeLaws.{Found, found}
-use Rattle.board.proofs.ReadLaws.{fromLeaves, fromPhandles, fromMap}
+use Rattle.board.specs.Answer.{treeOf, mpidrList, sourceOf}
+use Rattle.board.specs.Stages.{numbersOf, recordsTree, fromTree, fromRecords, recordsSource}
+use Rattle.board.proofs.OutcomeLaws.{found}
+use Rattle.board.proofs.ReadLaws.{fromLeaves, fromMap}
 
 -- the table of keys of a board
 abbrev pub boardKeys : Board → List ℕ

@@ -5,7 +5,6 @@ use mathlib.Core.List.{List}
 use Prim.Native.Nat.{ℕ, _+_, _*_, _^_, _<_}
 use lib.ListN.{length, getD, take, drop}
 use Rattle.laws.specs.Listing.{Listing}
-use Rattle.affinity.specs.declared.Hash.{Hash}
 use Rattle.affinity.specs.Hash.{hashOf}
 use Rattle.affinity.specs.List.{noHash}
 use Rattle.tables.specs.Board.{Board}

@@ -1,17 +1,15 @@
 -- H1 to H7 and N1 to N6 of 01 as one table, and the claim that the definitions give each of its entries.
 use mathlib.Core.Path.{_≡_, refl}
-use mathlib.Core.Bool.{cond}
 use mathlib.Core.List.{List, [], _∷_, _++_, map}
 use Prim.Native.Nat.{ℕ}
 use lib.Count.{leadingZeros, trailingZeros}
 use Rattle.laws.specs.Digit.{digit, fromDigits}
 use Rattle.laws.specs.Search.{anyBelow}
-use Rattle.affinity.specs.declared.Hash.{Hash}
 use Rattle.affinity.specs.Level.{levelPart, lowOf, topOf, widthOf}
 use Rattle.affinity.specs.Mask.{differing, maskOf}
 use Rattle.affinity.specs.Hash.{bitsBelow, shiftOf, shiftsOf, hashOfMask, hashOf, levelSlot, slotOf, slotIn}
 use Rattle.names.specs.declared.TopologyName.{TopologyName}
-use Rattle.names.specs.declared.TopologyName.the-variants.{Socket, Cluster, Core, Thread, Other}
+use Rattle.names.specs.declared.TopologyName.the-variants.{Socket, Cluster, Core, Other}
 use Rattle.names.specs.Kind.{Kind, word}
 use Rattle.names.specs.Name.{startsWith, digitsFrom, numberOf, nameOf}
 

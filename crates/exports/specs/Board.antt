@@ -6,7 +6,7 @@ use lib.Dec.{ltb}
 use lib.ListN.{length}
 use Rattle.tables.specs.Board.{Board}
 use Rattle.board.specs.declared.BoardAnswer.{BoardAnswer}
-use Rattle.board.specs.Answer.{answerOf, rowsAfter}
+use Rattle.board.specs.Answer.{rowsAfter}
 use Rattle.exports.specs.Answer.{answerSize, answerWords}
 
 abbrev pub boardWords : BoardAnswer → List ℕ

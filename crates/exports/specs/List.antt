@@ -1,8 +1,6 @@
 -- The answers of the two calls on a list of MPIDRs.
 use mathlib.Core.List.{List}
 use Prim.Native.Nat.{ℕ}
-use Rattle.affinity.specs.declared.ListHash.{ListHash}
-use Rattle.affinity.specs.declared.ListSlot.{ListSlot}
 use Rattle.affinity.specs.List.{noHash, hashAnswer, slotAnswer}
 use Rattle.exports.specs.Answer.{answerWords}
 

@@ -14,7 +14,6 @@ use Rattle.names.specs.declared.TopologyName.{TopologyName}
 use Rattle.names.specs.declared.TopologyName.the-variants.{Socket, Cluster, Core, Thread, Other}
 use Rattle.names.specs.Name.{nameOf}
 use Rattle.tables.specs.Board.{nodeCount, range, parentWord, nameOffset, nameLength}
-use Rattle.tables.specs.declared.Parent.{Parent}
 use Rattle.tables.specs.declared.Parent.the-variants.{Is, Top}
 use Rattle.tables.specs.Tree.{parentOf, climb, isBelow, Child, Ancestor}
 use Rattle.tables.proofs.TreeLaws.{parent-is, parent-top, the-parent, climb-parent, climb-none, climb-keeps, below-ancestor}

@@ -9,8 +9,6 @@ use Rattle.names.specs.declared.TopologyName.{TopologyName}
 use Rattle.names.specs.declared.TopologyName.the-variants.{Socket, Cluster, Core, Thread, Other}
 use Rattle.names.specs.Name.{nameOf}
 use Rattle.tables.specs.Board.{range, nameOffset, nameLength, nodeCount}
-use Rattle.tables.specs.declared.Parent.{Parent}
-use Rattle.tables.specs.declared.Parent.the-variants.{Is, Top}
 use Rattle.tables.specs.Tree.{climb}
 use Rattle.topology.specs.declared.ClusterPath.{ClusterPath}
 use Rattle.topology.specs.declared.Position.{Position}

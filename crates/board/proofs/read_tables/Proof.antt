@@ -1,9 +1,9 @@
 -- `read_tables` stops at the first fault of rules 1 to 10, and leaves the rest to `read_records`. Assumes nothing.
 use mathlib.Core.Path.{_≡_, refl, sym, ap, _∙_}
 use mathlib.Core.List.{List}
-use Prim.Native.Nat.{ℕ, zero, suc, _≤_, _<_}
+use Prim.Native.Nat.{ℕ, zero, suc, _≤_}
 use native.Mathlib.Omega.{arith}
-use lib.ListN.{length, take, replicate}
+use lib.ListN.{length, replicate}
 use Rattle.laws.specs.declared.Fault.{Fault}
 use Rattle.laws.specs.Fault.{told, orElse, firstFault}
 use Rattle.laws.specs.Listed.{over}
@@ -13,15 +13,14 @@ use Rattle.tables.specs.Rules.{WellFormed}
 use Rattle.tables.specs.Check.{tableFault}
 use Rattle.tables.proofs.RuleLaws.{table-sound}
 use Rattle.cpus.specs.Rules.{maxCpus}
-use Rattle.cpus.specs.Check.{rootFault, soundCells, addressCells, cpuCount, cpuList, countFault, cpuFault}
+use Rattle.cpus.specs.Check.{rootFault, addressCells, cpuCount, cpuList, countFault, cpuFault}
 use Rattle.cpus.proofs.CpuMeans.{cpu-count}
 use Rattle.cpus.proofs.RootLaws.{count-fits, cells-broken, cells-sound}
-use Rattle.board.specs.Answer.{boardFault, mpidrList, sourceOf}
-use Rattle.board.specs.Stages.{fromRecords}
+use Rattle.board.specs.Answer.{mpidrList, sourceOf}
 use Rattle.board.proofs.OutcomeLaws.{Found, found, Outcome, tells-first, passes, same-outcome}
 use Rattle.board.proofs.FrontLaws.{front-fits, front-size, front-is}
 use Rattle.board.proofs.ReadLaws.{fromMap, board-stages, Met, meets}
-use Rattle.board.proofs.RecordLaws.{boardKeys, records-stages, records-found}
+use Rattle.board.proofs.RecordLaws.{records-stages, records-found}
 use borrow.Author.Needs.{needs}
 use Rattle.board.proofs.read_tables.Statement.{statement}
 use Rattle.board.proofs.read_tables.Tie as tie

@@ -1,9 +1,9 @@
 -- `read_records` stops at the first fault of rules 11 to 17, and leaves the rest to `read_leaves`. Assumes nothing.
-use mathlib.Core.Path.{_≡_, refl, sym, ap, _∙_}
+use mathlib.Core.Path.{_≡_, sym, ap, _∙_}
 use mathlib.Core.List.{List, map}
-use Prim.Native.Nat.{ℕ, _≤_, _<_}
+use Prim.Native.Nat.{ℕ, _≤_}
 use native.Mathlib.Omega.{arith}
-use lib.ListN.{length, take, replicate, length-map}
+use lib.ListN.{length, replicate, length-map}
 use Rattle.laws.specs.declared.Fault.{Fault}
 use Rattle.laws.specs.Fault.{orElse}
 use Rattle.laws.specs.Listed.{over}
@@ -13,7 +13,7 @@ use Rattle.cpus.specs.Rules.{maxCpus}
 use Rattle.cpus.specs.Gather.{readingAt, numbersFault}
 use Rattle.cpus.proofs.ScanLaws.{numbers-clear}
 use Rattle.topology.specs.declared.MapScan.{MapScan}
-use Rattle.topology.specs.Find.{mapOf, mapFault, mapScan}
+use Rattle.topology.specs.Find.{mapFault}
 use Rattle.board.specs.Stages.{numbersOf, recordsTree, fromTree, fromRecords, recordsSource}
 use Rattle.board.proofs.OutcomeLaws.{Found, found, Outcome, tells-first, passes}
 use Rattle.board.proofs.FrontLaws.{front-fits, front-size, front-is}

@@ -1,8 +1,8 @@
-use mathlib.Core.Path.{refl, sym, ap, _∙_}
+use mathlib.Core.Path.{ap}
 use native.Mathlib.Omega.{arith}
 use lib.ListN.{length}
 use borrow.Author.Tests.{lt-ltb, le-ltb}
-use Rattle.affinity.proofs.SlotClaims.{hash-place-le, slot-place-le}
+use Rattle.affinity.proofs.SlotClaims.{hash-place-le}
 use borrow.Author.Needs.{needs}
 use Rattle.exports.proofs.list.sunderwath_list_hash.Statement.{statement}
 use Rattle.exports.proofs.list.sunderwath_list_hash.Tie as tie
