@@ -1,7 +1,7 @@
 // Cpu records: the children of record 0 named `cpu` or beginning `cpu@`.
 use tables::cell_at;
+use tables::node_word;
 use tables::range_is;
-use tables::wide;
 ghost use mathlib.Core.Path.{_≡_};
 ghost use Rattle.cpus.specs.Check.{isChild, isCpuName, isCpu};
 
@@ -15,7 +15,7 @@ pub fn is_child(nodes: &[u32], p: usize, i: usize) -> bool
     if nodes.len() / 3 <= i {
         return false;
     }
-    if wide(nodes[3 * i]) != p {
+    if node_word(nodes, i, 0) != p {
         return false;
     }
     p < i
@@ -36,7 +36,7 @@ pub fn is_cpu(nodes: &[u32], pool: &[u8], i: usize) -> bool
     ensures { λ r. ⌜ r ≡ isCpu (now (nodes .entry)) (now (pool .entry)) i ⌝ }
 {
     if is_child(nodes, 0, i) {
-        return is_cpu_name(pool, wide(nodes[3 * i + 1]), wide(nodes[3 * i + 2]));
+        return is_cpu_name(pool, node_word(nodes, i, 1), node_word(nodes, i, 2));
     }
     false
 }

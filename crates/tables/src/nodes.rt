@@ -3,22 +3,20 @@ use crate::limits::MAX_NODE_NAME;
 use crate::limits::NO_PARENT;
 use crate::pool::sound_name;
 use crate::tree::is_below;
-use crate::words::wide;
+use crate::words::node_word;
 use laws::BAD_NODE_NAME;
 use laws::BAD_PARENT;
 use laws::Fault;
 ghost use mathlib.Core.Path.{_≡_};
-ghost use Prim.Native.Nat.{_<_};
 ghost use Rattle.laws.specs.Fault.{firstFault};
 ghost use Rattle.tables.specs.Board.{nodeCount};
 ghost use Rattle.tables.specs.Check.{soundParent, nodeFault};
 
 // Whether the parent of record i is the record before it or an ancestor of that one; record 0 has none.
 fn sound_parent(nodes: &[u32], i: usize) -> bool
-    requires { ⌜ i < nodeCount (now nodes) ⌝ }
     ensures { λ r. ⌜ r ≡ soundParent (now (nodes .entry)) i ⌝ }
 {
-    let parent = wide(nodes[3 * i]);
+    let parent = node_word(nodes, i, 0);
     if i == 0 {
         return parent == NO_PARENT;
     }
@@ -31,11 +29,10 @@ fn sound_parent(nodes: &[u32], i: usize) -> bool
 
 // The smaller of 5 and 6 that record i breaks, or 0.
 fn node_fault(nodes: &[u32], bytes: usize, i: usize) -> u32
-    requires { ⌜ i < nodeCount (now nodes) ⌝ }
     ensures { λ r. ⌜ r ≡ nodeFault (now (nodes .entry)) bytes i ⌝ }
 {
-    let offset = wide(nodes[3 * i + 1]);
-    let len = wide(nodes[3 * i + 2]);
+    let offset = node_word(nodes, i, 1);
+    let len = node_word(nodes, i, 2);
     let named = sound_name(bytes, MAX_NODE_NAME, offset, len);
     let placed = sound_parent(nodes, i);
     if !named {

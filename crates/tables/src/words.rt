@@ -31,10 +31,15 @@ fn word_after(words: &[u32], start: usize, field: usize) -> usize
     wide(words[start + field])
 }
 
-// A word of node record i, 0 outside the table.
+// A word of node record i, 0 outside the table. A word of a whole record is read at once.
 pub fn node_word(nodes: &[u32], i: usize, field: usize) -> usize
     ensures { λ r. ⌜ r ≡ getD (now (nodes .entry)) (3 * i + field) 0 ⌝ }
 {
+    if i < nodes.len() / 3 {
+        if field < 3 {
+            return wide(nodes[3 * i + field]);
+        }
+    }
     if nodes.len() / 3 < i {
         return 0;
     }

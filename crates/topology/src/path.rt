@@ -2,7 +2,7 @@
 use crate::ClusterPath;
 use names::TopologyName;
 use names::name_of;
-use tables::wide;
+use tables::node_word;
 ghost use mathlib.Core.Path.{_≡_};
 ghost use Rattle.topology.specs.Path.{topologyName, noClusters, extend, clusterStep};
 
@@ -16,8 +16,8 @@ pub fn topology_name(nodes: &[u32], pool: &[u8], i: usize) -> TopologyName
     if nodes.len() / 3 <= i {
         return TopologyName::Other;
     }
-    let offset = wide(nodes[3 * i + 1]);
-    let len = wide(nodes[3 * i + 2]);
+    let offset = node_word(nodes, i, 1);
+    let len = node_word(nodes, i, 2);
     if pool.len() < offset {
         return TopologyName::Other;
     }

@@ -1,5 +1,8 @@
 -- `is_child` meets its contract. Assumes nothing.
+use mathlib.Core.Path.{_∙_}
+use Prim.Native.Nat.{_*_}
 use borrow.Author.Tests.{lt-ltb, le-ltb, eq-eqb, ne-eqb}
+use Rattle.tables.proofs.CodePool.{word-zero}
 use Rattle.cpus.specs.Check.{isChild}
 use borrow.Author.Needs.{needs}
 use Rattle.cpus.proofs.node.is_child.Statement.{statement}
@@ -9,27 +12,22 @@ returns : tie.Need-returns
 unfolding isChild
 returns c = rw (le-ltb _ _ (c .if1 .taken))
 
-mul-wide : tie.Need-mul-wide
-mul-wide c = search needs
-
-mul-wide-2 : tie.Need-mul-wide-2
-mul-wide-2 c = search needs
-
-shared-slice-read-wide : tie.Need-shared-slice-read-wide
-shared-slice-read-wide c = search needs
-
-wide-requires : tie.Need-wide-requires
-wide-requires c κs = search needs
+node-word-requires : tie.Need-node-word-requires
+node-word-requires c κs = search needs
 
 returns-2 : tie.Need-returns-2
 unfolding isChild
-returns-2 c = rw (lt-ltb _ _ (c .before .before .before .if1 .left), ← c .before .wide .ensures, ne-eqb _ _ (c .if2 .taken))
+returns-2 c =
+    let a = c .before .before .before .before .args in
+    let word = c .before .node-word .ensures ∙ word-zero (a .nodes .now) (3 * a .i) in
+    rw (lt-ltb _ _ (c .before .before .if1 .left), ← word, ne-eqb _ _ (c .if2 .taken))
 
 returns-3 : tie.Need-returns-3
 unfolding isChild
-returns-3 c = rw (lt-ltb _ _ (c .before .before .before .if1 .left), ← c .before .wide .ensures, eq-eqb _ _ (c .if2 .left))
+returns-3 c =
+    let a = c .before .before .before .before .args in
+    let word = c .before .node-word .ensures ∙ word-zero (a .nodes .now) (3 * a .i) in
+    rw (lt-ltb _ _ (c .before .before .if1 .left), ← word, eq-eqb _ _ (c .if2 .left))
 
 pub is-child-spec : {M : Type 1} → statement M
-is-child-spec =
-    tie.close
-    (tie.spec returns mul-wide mul-wide-2 shared-slice-read-wide wide-requires returns-2 returns-3)
+is-child-spec = tie.close (tie.spec returns node-word-requires returns-2 returns-3)

@@ -7,35 +7,11 @@ use Rattle.tables.specs.Check.{nodeFault}
 use Rattle.tables.proofs.nodes.node_fault.Statement.{statement}
 use Rattle.tables.proofs.nodes.node_fault.Tie as tie
 
-mul-wide : tie.Need-mul-wide
-mul-wide c = search needs
+node-word-requires : tie.Need-node-word-requires
+node-word-requires c κs = search needs
 
-add-wide : tie.Need-add-wide
-add-wide c = search needs
-
-mul-wide-2 : tie.Need-mul-wide-2
-mul-wide-2 c = search needs
-
-shared-slice-read-wide : tie.Need-shared-slice-read-wide
-shared-slice-read-wide c = search needs
-
-wide-requires : tie.Need-wide-requires
-wide-requires c κs = search needs
-
-mul-wide-3 : tie.Need-mul-wide-3
-mul-wide-3 c = search needs
-
-add-wide-2 : tie.Need-add-wide-2
-add-wide-2 c = search needs
-
-mul-wide-4 : tie.Need-mul-wide-4
-mul-wide-4 c = search needs
-
-shared-slice-read-wide-2 : tie.Need-shared-slice-read-wide-2
-shared-slice-read-wide-2 c = search needs
-
-wide-requires-2 : tie.Need-wide-requires-2
-wide-requires-2 c κs = search needs
+node-word-requires-2 : tie.Need-node-word-requires-2
+node-word-requires-2 c κs = search needs
 
 sound-name-requires : tie.Need-sound-name-requires
 sound-name-requires c κs = search needs
@@ -46,14 +22,14 @@ sound-parent-requires c κs = search needs
 -- the number by the two tests
 tests :
     (c : tie.After-sound-parent) →
-    let a = c .before .before .before .before .before .before .before .args in
+    let a = c .before .before .before .before .before .args in
     cond (c .before .sound-name .result) (cond (c .sound-parent .result) 0 6) 5 ≡ nodeFault (a .nodes .now) (a .bytes) (a .i)
 unfolding nodeFault
 tests c =
     rw (
       c .before .sound-name .ensures,
-      c .before .before .before .before .wide .ensures,
-      c .before .before .wide2 .ensures,
+      c .before .before .before .node-word .ensures,
+      c .before .before .node-word2 .ensures,
       c .sound-parent .ensures,
     )
 
@@ -74,16 +50,8 @@ pub node-fault-spec : {M : Type 1} → statement M
 node-fault-spec =
     tie.close
     (tie.spec
-    mul-wide
-    add-wide
-    mul-wide-2
-    shared-slice-read-wide
-    wide-requires
-    mul-wide-3
-    add-wide-2
-    mul-wide-4
-    shared-slice-read-wide-2
-    wide-requires-2
+    node-word-requires
+    node-word-requires-2
     sound-name-requires
     sound-parent-requires
     returns

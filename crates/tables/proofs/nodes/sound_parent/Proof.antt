@@ -11,20 +11,11 @@ use Rattle.tables.proofs.CodeTree.{sound-first, sound-later}
 use Rattle.tables.proofs.nodes.sound_parent.Statement.{statement}
 use Rattle.tables.proofs.nodes.sound_parent.Tie as tie
 
-mul-wide : tie.Need-mul-wide
-mul-wide c = search needs
-
-mul-wide-2 : tie.Need-mul-wide-2
-mul-wide-2 c = search needs
-
-shared-slice-read-wide : tie.Need-shared-slice-read-wide
-shared-slice-read-wide c = search needs
-
-wide-requires : tie.Need-wide-requires
-wide-requires c κs = search needs
+node-word-requires : tie.Need-node-word-requires
+node-word-requires c κs = search needs
 
 returns : tie.Need-returns
-returns c = sound-first _ _ _ (c .if1 .taken) (c .before .wide .ensures)
+returns c = sound-first _ _ _ (c .if1 .taken) (c .before .node-word .ensures)
 
 sub-before : tie.Need-sub-before
 sub-before c = search needs
@@ -32,10 +23,10 @@ sub-before c = search needs
 -- the rule of a record after the first
 later :
     (c : tie.Else1) →
-    let a = c .before .before .before .before .args in
-    let w = c .before .wide .result in
+    let a = c .before .before .before .args in
+    let w = c .before .node-word .result in
     cond (eqb w (a .i - 1)) true (isBelow (a .nodes .now) (a .i - 1) w) ≡ soundParent (a .nodes .now) (a .i)
-later c = sound-later _ _ _ (c .if1 .left) (c .before .wide .ensures)
+later c = sound-later _ _ _ (c .if1 .left) (c .before .node-word .ensures)
 
 returns-2 : tie.Need-returns-2
 returns-2 c = rw (eq-eqb _ _ (c .if2 .taken)) at (later (c .before))
@@ -49,13 +40,4 @@ returns-3 c = c .is-below .ensures ∙ rw (ne-eqb _ _ (c .before .if2 .left)) at
 pub sound-parent-spec : {M : Type 1} → statement M
 sound-parent-spec =
     tie.close
-    (tie.spec
-    mul-wide
-    mul-wide-2
-    shared-slice-read-wide
-    wide-requires
-    returns
-    sub-before
-    returns-2
-    is-below-requires
-    returns-3)
+    (tie.spec node-word-requires returns sub-before returns-2 is-below-requires returns-3)

@@ -6,8 +6,26 @@ use borrow.Author.Needs.{needs}
 use Rattle.tables.proofs.words.node_word.Statement.{statement}
 use Rattle.tables.proofs.words.node_word.Tie as tie
 
+mul-wide : tie.Need-mul-wide
+mul-wide c = search needs
+
+add-wide : tie.Need-add-wide
+add-wide c = search needs
+
+mul-wide-2 : tie.Need-mul-wide-2
+mul-wide-2 c = search needs
+
+shared-slice-read-wide : tie.Need-shared-slice-read-wide
+shared-slice-read-wide c = search needs
+
+wide-requires : tie.Need-wide-requires
+wide-requires c κs = search needs
+
 returns : tie.Need-returns
-returns c = sym (List·getD-eq-default (c .before .before .args .nodes .now) 0 (omega arith))
+returns c = search needs
+
+returns-2 : tie.Need-returns-2
+returns-2 c = sym (List·getD-eq-default (c .before .before .before .args .nodes .now) 0 (omega arith))
 
 mul-word-after : tie.Need-mul-word-after
 mul-word-after c = search needs
@@ -15,8 +33,20 @@ mul-word-after c = search needs
 word-after-requires : tie.Need-word-after-requires
 word-after-requires c κs = search needs
 
-returns-2 : tie.Need-returns-2
-returns-2 c = search needs
+returns-3 : tie.Need-returns-3
+returns-3 c = search needs
 
 pub node-word-spec : {M : Type 1} → statement M
-node-word-spec = tie.close (tie.spec returns mul-word-after word-after-requires returns-2)
+node-word-spec =
+    tie.close
+    (tie.spec
+    mul-wide
+    add-wide
+    mul-wide-2
+    shared-slice-read-wide
+    wide-requires
+    returns
+    returns-2
+    mul-word-after
+    word-after-requires
+    returns-3)
