@@ -39,11 +39,13 @@ boardFault b room =
 abbrev pub mpidrList : Board → List ℕ
 mpidrList b = map (mpidrAt b) (cpuList b)
 
--- what the rows of an accepted board are made of
+-- what the rows are made of: of a tree, the cpu records and their MPIDRs; of an accepted board
+abbrev pub treeSource : Tree → List ℕ → List ℕ → Source
+treeSource t records mpidrs =
+    source (t .nodes) (t .pool) records mpidrs (leafList t) (map (cpuOf t) (leafList t)) (maskOf mpidrs)
+
 abbrev pub sourceOf : Board → Source
-sourceOf b =
-    let t = treeOf b in
-    source (b .nodes) (b .pool) (cpuList b) (mpidrList b) (leafList t) (map (cpuOf t) (leafList t)) (maskOf (mpidrList b))
+sourceOf b = treeSource (treeOf b) (cpuList b) (mpidrList b)
 
 -- a refusal: every other result is 0
 abbrev pub refusedWith : ℕ → ℕ → BoardAnswer

@@ -4,16 +4,15 @@ use Prim.Native.Nat.{ℕ}
 use lib.ListN.{length}
 use Rattle.laws.specs.declared.Fault.{Fault}
 use Rattle.laws.specs.Fault.{told, orElse}
-use Rattle.affinity.specs.Mask.{maskOf}
 use Rattle.cpus.specs.declared.Reading.{Reading}
 use Rattle.cpus.specs.declared.Wanted.the-variants.{Mpidrs, Phandles}
 use Rattle.cpus.specs.Rules.{maxCpus}
 use Rattle.cpus.specs.Gather.{readingAt, numbersFault}
 use Rattle.topology.specs.Find.{mapOf, mapFault}
 use Rattle.topology.specs.Check.{keyCells}
-use Rattle.topology.specs.Scan.{Tree, tree, cpuOf, leafList, scanFault}
-use Rattle.rows.specs.Write.{Source, source}
-use Rattle.board.specs.Answer.{roomFault}
+use Rattle.topology.specs.Scan.{Tree, tree, scanFault}
+use Rattle.rows.specs.Write.{Source}
+use Rattle.board.specs.Answer.{roomFault, treeSource}
 
 -- the tables with the map's record and the cpu records' phandles; the cells of `cpu` by a table of keys
 abbrev pub keyTree : List ℕ → List ℕ → List ℕ → List ℕ → ℕ → List ℕ → Tree
@@ -22,11 +21,6 @@ keyTree nodes props pool keys root phandles = tree nodes (keyCells props pool ke
 -- the first of rules 18 to 27 that is broken, for a row buffer of so many words
 unfoldable pub fromTree : Tree → List ℕ → ℕ → Fault
 fromTree t records room = orElse (scanFault t records) (told (roomFault room (length records)) 0)
-
--- what the rows are made of, given the cpu records and their MPIDRs
-abbrev pub treeSource : Tree → List ℕ → List ℕ → Source
-treeSource t records mpidrs =
-    source (t .nodes) (t .pool) records mpidrs (leafList t) (map (cpuOf t) (leafList t)) (maskOf mpidrs)
 
 -- the numbers of records by their readings
 abbrev pub numbersOf : (ℕ → Reading) → List ℕ → List ℕ

@@ -7,8 +7,8 @@ use laws::NO_ROOM;
 use rows::ROW_WORDS;
 ghost use mathlib.Core.Path.{_≡_};
 ghost use lib.ListN.{length};
-ghost use Rattle.board.specs.Answer.{answerBy, rowsBy};
-ghost use Rattle.board.specs.Stages.{keyTree, fromTree, treeSource};
+ghost use Rattle.board.specs.Answer.{treeSource, answerBy, rowsBy};
+ghost use Rattle.board.specs.Stages.{keyTree, fromTree};
 
 // Reads a board from its leaves on. Rows are written only once every rule has passed.
 pub fn read_leaves(

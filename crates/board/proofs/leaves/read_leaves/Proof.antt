@@ -12,8 +12,8 @@ use Rattle.topology.specs.declared.TreeScan.{TreeScan}
 use Rattle.topology.specs.Scan.{Tree, cpuOf, leafList, scanFault, treeScan}
 use Rattle.topology.proofs.ScanLaws.{leaves-few, leaves-listed, named-listed}
 use Rattle.rows.specs.Fits.{rowSize}
-use Rattle.board.specs.Answer.{roomFault}
-use Rattle.board.specs.Stages.{keyTree, fromTree, treeSource}
+use Rattle.board.specs.Answer.{roomFault, treeSource}
+use Rattle.board.specs.Stages.{keyTree, fromTree}
 use Rattle.board.proofs.OutcomeLaws.{Found, found, tells, tells-first, passes, accepts}
 use Rattle.board.proofs.FrontLaws.{front-fits, front-size, front-is}
 use borrow.Author.Needs.{needs}
