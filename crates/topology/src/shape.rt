@@ -65,7 +65,7 @@ pub fn group_fault(nodes: &[u32], i: usize) -> u32
 fn depth_fault(nodes: &[u32], pool: &[u8], p: usize) -> u32
     ensures { λ r. ⌜ r ≡ depthFault (now (nodes .entry)) (now (pool .entry)) p ⌝ }
 {
-    // A record has fewer ancestors than its number.
+    // Record p has at most p ancestors, and record 0 is not counted.
     if p < 4 {
         return 0;
     }
