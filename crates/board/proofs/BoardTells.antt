@@ -21,14 +21,14 @@ use Rattle.cpus.specs.Node.{Cpu}
 use Rattle.cpus.specs.Check.{cpuCount, cpuList}
 use Rattle.cpus.proofs.CpuMeans.{cpu-listing, cpu-count}
 use Rattle.cpus.proofs.CpuTells.{cpus-tells, phandles-tells}
-use Rattle.topology.specs.Scan.{leavesFault}
+use Rattle.topology.specs.Scan.{treeAt, leavesFault}
 use Rattle.topology.proofs.MapMeans.{map-is}
 use Rattle.topology.proofs.MapTells.{map-tells}
-use Rattle.topology.proofs.CheckLeaf.{treeAt}
 use Rattle.topology.proofs.TreeTells.{tree-tells}
 use Rattle.rows.specs.Fits.{rowSize}
 use Rattle.board.specs.Rules.{Breaks}
 use Rattle.board.specs.Answer.{boardFault, roomFault}
+use Rattle.board.proofs.LayerLaws.{board-stages}
 use Rattle.board.proofs.StageLaws.{table-back, cpu-back, map-back, last-stage, stage-range}
 
 module _ {b : Board} (typed : Typed b) (room : ℕ) where
@@ -68,14 +68,14 @@ module _ {b : Board} (typed : Typed b) (room : ℕ) where
         told-clears (suc v) z = absurd (omega arith)
 
   pub board-tells : Tells stage R 1 (boardFault b room)
-  unfolding boardFault
   board-tells =
-      table-tells b R (λ n p r. Breaks.tables r) (λ n p r le. table-back room n p r le) _ λ well.
+      rw (board-stages b room)
+      (table-tells b R (λ n p r. Breaks.tables r) (λ n p r le. table-back room n p r le) _ λ well.
       cpus-tells typed well R (λ n p r. Breaks.cpus r) (λ n p r lo hi. cpu-back room n p r lo (inl hi)) _ λ sound.
       map-tells b well R (λ n p r. Breaks.topology r) (λ n p r lo hi. map-back room n p r lo (omega arith) (λ e. omega arith)) _ λ m is-map _.
       phandles-tells typed well R (λ n p r. Breaks.cpus r) (λ n p r e. cpu-back room n p r (omega arith) (inr e)) sound _ λ no17.
       subst
-      (λ (root : ℕ). Tells stage R 13 (orElse (leavesFault (treeAt b root)) (told (roomFault room (cpuCount b)) 0)))
+      (λ (root : ℕ). Tells stage R 13 (orElse (leavesFault (treeAt b root) (cpuList b)) (told (roomFault room (cpuCount b)) 0)))
       (map-is b well m is-map)
       (tree-tells typed well sound no17 is-map R (λ n p r. Breaks.topology r) (λ n p r lo hi. map-back room n p r (omega arith) (omega arith) (λ e. omega arith)) _ λ _.
-      room-tells well)
+      room-tells well))

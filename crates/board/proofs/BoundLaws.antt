@@ -6,7 +6,7 @@ use native.Mathlib.Nat.{le-trans}
 use native.Mathlib.Omega.{arith}
 use lib.Dec.{eqb}
 use borrow.Author.Tests.{eqb-true}
-use Rattle.laws.specs.Fault.{told, firstFault}
+use Rattle.laws.specs.Fault.{told, orElse, firstFault}
 use Rattle.laws.proofs.FaultLaws.{place-le}
 use Rattle.laws.proofs.OrElseLaws.{or-clear}
 use Rattle.laws.proofs.RuleStageLaws.{told-place, else-place}
@@ -15,13 +15,14 @@ use Rattle.tables.specs.Limits.{maxProperties}
 use Rattle.tables.specs.Check.{tableFault}
 use Rattle.tables.proofs.RuleLaws.{table-place, table-sound}
 use Rattle.tables.proofs.WellFormedLaws.{wf-nodes}
-use Rattle.cpus.specs.Check.{cpuCount, cpusFault, phandlesFault}
+use Rattle.cpus.specs.Check.{cpuCount, cpuList, cpusFault, phandlesFault}
 use Rattle.cpus.proofs.CpuTells.{cpus-place, phandles-place}
-use Rattle.topology.specs.Find.{mapFault, noMapFault, secondMapFault}
-use Rattle.topology.specs.Scan.{leavesFault}
+use Rattle.topology.specs.Find.{mapOf, mapFault, noMapFault, secondMapFault}
+use Rattle.topology.specs.Scan.{leavesFault, treeOf}
 use Rattle.topology.proofs.TreeTells.{leaves-place}
-use Rattle.board.specs.Answer.{boardFault, roomFault, treeOf, answerOf}
-use Rattle.board.proofs.ReadLaws.{fromLeaves, fromPhandles, fromMap, fromCpus, few-cpus}
+use Rattle.board.specs.Survey.{surveyFault}
+use Rattle.board.specs.Answer.{boardFault, roomFault, answerOf}
+use Rattle.board.proofs.LayerLaws.{board-stages, few-cpus}
 
 module _ (b : Board) (room : ℕ) where
   abbrev count : ℕ
@@ -31,19 +32,22 @@ module _ (b : Board) (room : ℕ) where
   unfolding mapFault
   map-place = else-place (told (noMapFault (b .nodes) (b .pool)) 0) (firstFault (secondMapFault (b .nodes) (b .pool)) count) (le-trans (told-place (noMapFault (b .nodes) (b .pool)) 0) (omega arith)) (λ _. place-le (secondMapFault (b .nodes) (b .pool)) count)
 
-  later-place : fromCpus b room .place ≤ count
+  later-place :
+      orElse (cpusFault b)
+      (orElse (mapFault (b .nodes) (b .pool))
+      (orElse (phandlesFault b) (orElse (leavesFault (treeOf b) (cpuList b)) (told (roomFault room (cpuCount b)) 0)))) .place
+      ≤ count
   later-place =
-      else-place (cpusFault b) (fromMap b room) (cpus-place b) λ _.
-      else-place (mapFault (b .nodes) (b .pool)) (fromPhandles b room) map-place λ _.
-      else-place (phandlesFault (b .nodes) (b .props) (b .pool)) (fromLeaves b room) (phandles-place (b .nodes) (b .props) (b .pool)) λ _.
-      else-place (leavesFault (treeOf b)) (told (roomFault room (cpuCount b)) 0) (leaves-place (treeOf b)) λ _.
+      else-place (cpusFault b) _ (cpus-place b) λ _.
+      else-place (mapFault (b .nodes) (b .pool)) _ map-place λ _.
+      else-place (phandlesFault b) _ (phandles-place b) λ _.
+      else-place (leavesFault (treeOf b) (cpuList b)) (told (roomFault room (cpuCount b)) 0) (leaves-place b (mapOf (b .nodes) (b .pool))) λ _.
       le-trans (told-place (roomFault room (cpuCount b)) 0) (omega arith)
 
   fault-place : boardFault b room .place ≤ maxProperties
-  unfolding boardFault
   fault-place =
-      else-place (tableFault b) (fromCpus b room) (table-place b)
-      (λ z. let n = wf-nodes (table-sound b .0 z) in omega (arith, later-place, n .1))
+      rw (board-stages b room)
+      (else-place (tableFault b) _ (table-place b) λ z. le-trans later-place (omega (arith, wf-nodes (table-sound b .0 z) .1)))
 
   pub answer-place : answerOf b room .place ≤ maxProperties
   unfolding answerOf
@@ -54,10 +58,10 @@ module _ (b : Board) (room : ℕ) where
       go false e = rw e fault-place
 
   pub answer-count : answerOf b room .count ≤ 256
-  unfolding answerOf boardFault
+  unfolding answerOf boardFault surveyFault
   answer-count = go (eqb (boardFault b room .number) 0) refl
     where
       go : (t : Bool) → eqb (boardFault b room .number) 0 ≡ t → answerOf b room .count ≤ 256
       go true e =
-          rw e (few-cpus b (or-clear (cpusFault b) (fromMap b room) (or-clear (tableFault b) (fromCpus b room) (eqb-true (boardFault b room .number) 0 e) .1) .0))
+          rw e (few-cpus b (or-clear (cpusFault b) _ (or-clear (tableFault b) _ (or-clear (surveyFault b) _ (eqb-true (boardFault b room .number) 0 e) .0) .1) .0))
       go false e = rw e (omega arith)

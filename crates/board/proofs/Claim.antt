@@ -15,22 +15,22 @@ use Rattle.tables.specs.Board.{Board, Typed, nodeCount}
 use Rattle.tables.specs.Order.{stage}
 use Rattle.tables.specs.Rules.{WellFormed}
 use Rattle.cpus.specs.Rules.{CpuRule, SoundCpus}
-use Rattle.cpus.specs.Check.{cpuCount, cpuList}
+use Rattle.cpus.specs.Check.{cpuCount, cpuList, mpidrList}
 use Rattle.cpus.proofs.CpuMeans.{cpu-listing, cpu-count}
 use Rattle.topology.specs.Map.{Map}
 use Rattle.topology.specs.Rules.{MapRule}
 use Rattle.topology.specs.Find.{mapOf}
 use Rattle.topology.proofs.MapMeans.{map-of, no-map}
 use Rattle.rows.specs.Fits.{rowSize, Fits}
-use Rattle.rows.specs.Write.{rowsBelow, written}
-use Rattle.rows.proofs.SourceMeans.{theSource, leafCount, LeafFacts, leaf-facts, leaf-count, mpidrs-of}
+use Rattle.rows.specs.Write.{rowsBelow, written, sourceOf}
+use Rattle.rows.proofs.SourceMeans.{leafCount, LeafFacts, leaf-facts, leaf-count, mpidrs-of}
 use Rattle.rows.proofs.FitMeans.{rows-fit}
 use Rattle.rows.proofs.FitUnique.{fits-unique}
 use Rattle.rows.proofs.SlotMeans.{slots-distinct-rows, slots-bounded}
 use Rattle.rows.proofs.WrittenLaws.{written-front, written-rest, written-length, written-at}
 use Rattle.board.specs.declared.BoardAnswer.{BoardAnswer}
 use Rattle.board.specs.Rules.{Breaks, MapBroken, Room}
-use Rattle.board.specs.Answer.{boardFault, sourceOf, mpidrList, answerOf, rowsAfter}
+use Rattle.board.specs.Answer.{boardFault, answerOf, rowsAfter}
 use Rattle.board.specs.Reading.{slotAt, Refused, Accepted, Demands}
 use Rattle.board.proofs.StageLaws.{CpuPlace, cpu-place, map-place, stage-range}
 use Rattle.board.proofs.BoardTells.{board-tells}
@@ -73,16 +73,16 @@ module _
     after = written (sourceOf b) before
 
     fits : Fits b (take (rowSize * cpuCount b) after)
-    fits = rw (← same, written-front (theSource b) before has-room) (rows-fit typed well sound (the-map .1) kept leaves)
+    fits = rw (← same, written-front (sourceOf b) before has-room) (rows-fit typed well sound (the-map .1) kept leaves)
 
-    slot-at : (k : ℕ) → k < cpuCount b → slotAt after k ≡ slotAt (rowsBelow (theSource b) (leafCount b)) k
-    slot-at k lt = written-at (theSource b) before has-room (rowSize * k + 11) (omega (arith, same))
+    slot-at : (k : ℕ) → k < cpuCount b → slotAt after k ≡ slotAt (rowsBelow (sourceOf b) (leafCount b)) k
+    slot-at k lt = written-at (sourceOf b) before has-room (rowSize * k + 11) (omega (arith, same))
 
     distinct : (j k : ℕ) → j < cpuCount b → k < cpuCount b → slotAt after j ≡ slotAt after k → j ≡ k
     distinct j k lj lk e = slots-distinct-rows typed well sound leaves j k (rw same lj) (rw same lk) (sym (slot-at j lj) ∙ e ∙ slot-at k lk)
 
     rest : drop (rowSize * cpuCount b) after ≡ drop (rowSize * cpuCount b) before
-    rest = rw (← same) (written-rest (theSource b) before has-room)
+    rest = rw (← same) (written-rest (sourceOf b) before has-room)
 
     rows-accepted : Accepted b before (record { number = 0; place = 0; count = cpuCount b; hash = hashOf (mpidrList b) }) after
     rows-accepted =
@@ -91,7 +91,7 @@ module _
           fits = fits;
           only = λ rows h. fits-unique typed well sound no17 kept h fits;
           rest = rest;
-          size = written-length (theSource b) before has-room;
+          size = written-length (sourceOf b) before has-room;
           count = (cpuList b, cpu-listing well, cpu-count b);
           hash = (mpidrList b, mpidrs-of typed well sound, refl);
           distinct = distinct;

@@ -1,27 +1,33 @@
 -- What a reader that stops at the first fault answers. Assumes nothing.
 use mathlib.Core.Path.{_≡_, refl, sym, ap, _∙_}
 use mathlib.Core.Bool.{Bool, true, false, cond}
-use mathlib.Core.List.{List, map}
-use Prim.Native.Nat.{ℕ, _≤_}
+use mathlib.Core.List.{List}
+use Prim.Native.Nat.{ℕ, _*_, _≤_, _<_}
 use native.Mathlib.Omega.{arith}
 use lib.Dec.{eqb, ltb}
 use lib.ListN.{length}
-use borrow.Author.Tests.{eq-eqb, ne-eqb, eqb-true, ltb-false}
+use borrow.Author.Tests.{eq-eqb, ne-eqb, eqb-true, lt-ltb, le-ltb, ltb-false}
 use Rattle.laws.specs.declared.Fault.{Fault}
-use Rattle.laws.specs.Fault.{told, orElse, firstFault}
+use Rattle.laws.specs.Fault.{told, orElse}
+use Rattle.laws.proofs.FaultLaws.{or-first, or-second}
 use Rattle.laws.proofs.OrElseLaws.{told-number, or-clear, or-assoc}
-use Rattle.tables.specs.Board.{Board, Typed, nodeCount}
+use Rattle.affinity.specs.declared.Hash.{Hash}
+use Rattle.affinity.specs.Hash.{hashOfMask, hashOf}
+use Rattle.tables.specs.Board.{Board, Typed}
 use Rattle.tables.specs.Check.{tableFault}
 use Rattle.cpus.specs.Rules.{maxCpus}
-use Rattle.cpus.specs.Check.{cpuCount, countFault, rootFault, cpuFault, cpusFault, phandlesFault}
+use Rattle.cpus.specs.Check.{cpuCount, countFault, rootFault, cpusFault, phandlesFault, mpidrList}
 use Rattle.topology.specs.declared.MapScan.{MapScan}
 use Rattle.topology.specs.Find.{mapOf, mapFault, mapScan}
-use Rattle.topology.specs.Scan.{leavesFault}
+use Rattle.topology.specs.Scan.{leavesFault, treeOf, leavesOf}
+use Rattle.rows.specs.Fits.{rowSize}
+use Rattle.rows.specs.Write.{written, sourceOf}
 use Rattle.board.specs.declared.BoardAnswer.{BoardAnswer}
-use Rattle.board.specs.Answer.{boardFault, roomFault, treeOf, mpidrList, sourceOf, answerOf, rowsAfter}
+use Rattle.board.specs.declared.Surveyed.{Surveyed}
+use Rattle.board.specs.Survey.{surveyFault, surveyOf}
+use Rattle.board.specs.Answer.{boardFault, roomFault, refusedWith, answerOf, rowsAfter}
 use Rattle.board.specs.Reading.{Demands}
 use Rattle.board.proofs.Claim.{demands}
-use Rattle.board.proofs.OutcomeLaws.{found, Outcome}
 
 -- A scan: `good` where the fault tells nothing, and else `bad`, which holds the fault's number and place.
 module _ {A : Type 0} (f : Fault) (good bad : A) where
@@ -55,50 +61,72 @@ module _ (nodes pool : List ℕ) where
   unfolding mapScan
   map-root z = ap (λ (r : MapScan). r .map) (scan-good (mapFault nodes pool) _ _ z)
 
--- the faults from each layer on
-module _ (b : Board) (room : ℕ) where
-  abbrev pub fromLeaves : Fault
-  fromLeaves = orElse (leavesFault (treeOf b)) (told (roomFault room (cpuCount b)) 0)
+-- the hash of a mask is that of its own mask
+pub hash-made : {h : Hash} (mask : ℕ) → h ≡ hashOfMask mask → h ≡ hashOfMask (h .mask)
+unfolding hashOfMask
+hash-made mask e = e ∙ ap hashOfMask (sym (ap (λ (h : Hash). h .mask) e))
 
-  abbrev pub fromPhandles : Fault
-  fromPhandles = orElse (phandlesFault (b .nodes) (b .props) (b .pool)) fromLeaves
+-- the survey
+module _ (b : Board) where
+  pub survey-number : surveyOf b .number ≡ surveyFault b .number
+  unfolding surveyOf
+  survey-number = scan-number (surveyFault b) _ _ (λ (r : Surveyed). r .number) refl refl
 
-  abbrev pub fromMap : Fault
-  fromMap = orElse (mapFault (b .nodes) (b .pool)) fromPhandles
+  pub survey-place : (surveyFault b .number ≡ 0 → ⊥) → surveyOf b .place ≡ surveyFault b .place
+  unfolding surveyOf
+  survey-place = scan-place (surveyFault b) _ _ (λ (r : Surveyed). r .place) refl
 
-  abbrev pub fromCpus : Fault
-  fromCpus = orElse (cpusFault b) fromMap
-
--- at most 256 cpu records, once rules 9 and 10 have passed
-pub few-cpus : (b : Board) → cpusFault b .number ≡ 0 → cpuCount b ≤ 256
-unfolding cpusFault
-few-cpus b z =
-    let later = or-clear (told (rootFault b) 0) _ z .1 in
-    few (cpuCount b) (sym (told-number (countFault (cpuCount b)) 0) ∙ or-clear (told (countFault (cpuCount b)) 0) _ later .0)
-  where
-    few : (n : ℕ) → countFault n ≡ 0 → n ≤ 256
-    few n = go (eqb n 0) refl (ltb maxCpus n) refl
-      where
-        go : (t : Bool) → eqb n 0 ≡ t → (d : Bool) → ltb maxCpus n ≡ d → _≡_ {A = ℕ} (cond t 10 (cond d 10 0)) 0 → n ≤ 256
-        go true e d g h = absurd (omega arith)
-        go false e true g h = absurd (omega arith)
-        go false e false g h = ltb-false maxCpus n g
-
--- the faults of a board, stage by stage up to rule 13
-pub board-stages :
-    (b : Board) (room : ℕ) →
-    boardFault b room
-    ≡ orElse (tableFault b)
-    (orElse (told (rootFault b) 0)
-    (orElse (told (countFault (cpuCount b)) 0) (orElse (firstFault (cpuFault b) (nodeCount (b .nodes))) (fromMap b room))))
-unfolding boardFault cpusFault
-board-stages b room = simp or-assoc
+  pub survey-counts : surveyFault b .number ≡ 0 → (surveyOf b .cpus ≡ cpuCount b) × (surveyOf b .leaves ≡ length (leavesOf b))
+  unfolding surveyOf
+  survey-counts z = rw (eq-eqb (surveyFault b .number) 0 z) (refl, refl)
 
 module _ {b : Board} (typed : Typed b) (before : List ℕ) where
   -- what the contract asks of an answer and the buffer after the call
   abbrev pub Met : BoardAnswer → List ℕ → Type 0
   Met r after = (r ≡ answerOf b (length before)) × ((after ≡ rowsAfter b before) × Demands b before r after)
 
-  pub meets : {r : BoardAnswer} {after : List ℕ} → Outcome before (found (cpuCount b) (mpidrList b) (sourceOf b)) (boardFault b (length before)) r after → Met r after
+  met : {r : BoardAnswer} {after : List ℕ} → r ≡ answerOf b (length before) → after ≡ rowsAfter b before → Met r after
+  met e g = (e, (g, rw (e, g) (demands typed before)))
+
+  -- a fault is told
+  refuses : {r : BoardAnswer} {f : Fault} → boardFault b (length before) ≡ f → (f .number ≡ 0 → ⊥) → r ≡ refusedWith (f .number) (f .place) → Met r before
   unfolding answerOf rowsAfter
-  meets (e, g) = (e, (g, rw (e, g) (demands typed before)))
+  refuses {r} {f} e ne is = met (rw (e, ne-eqb (f .number) 0 ne) is) (rw (e, ne-eqb (f .number) 0 ne))
+
+  -- by the survey
+  module _ {s : Surveyed} (found : s ≡ surveyOf b) where
+    number-is : s .number ≡ surveyFault b .number
+    number-is = ap (λ (r : Surveyed). r .number) found ∙ survey-number b
+
+    pub refuses-survey : {r : BoardAnswer} → (s .number ≡ 0 → ⊥) → r ≡ refusedWith (s .number) (s .place) → Met r before
+    unfolding boardFault
+    refuses-survey {r} ne is =
+        let some : surveyFault b .number ≡ 0 → ⊥ = λ z. ne (number-is ∙ z) in
+        let place = ap (λ (r : Surveyed). r .place) found ∙ survey-place b some in
+        refuses (or-first (surveyFault b) _ some) some (is ∙ rw (number-is, place))
+
+    -- a survey that tells nothing
+    module _ (z : s .number ≡ 0) where
+      pub none : surveyFault b .number ≡ 0
+      none = sym number-is ∙ z
+
+      pub counts : (s .cpus ≡ cpuCount b) × (s .leaves ≡ length (leavesOf b))
+      counts = (ap (λ (r : Surveyed). r .cpus) found ∙ survey-counts b none .0, ap (λ (r : Surveyed). r .leaves) found ∙ survey-counts b none .1)
+
+      at-room : (t : Bool) → ltb (length before) (rowSize * cpuCount b) ≡ t → boardFault b (length before) ≡ told (cond t 27 0) 0
+      unfolding boardFault
+      at-room t e = or-second (surveyFault b) _ none ∙ rw e
+
+      -- rule 27
+      pub refuses-room : {r : BoardAnswer} → length before < rowSize * cpuCount b → r ≡ refusedWith 27 0 → Met r before
+      refuses-room lt is = refuses (at-room true (lt-ltb _ _ lt)) (λ w. omega arith) is
+
+      pub accepts :
+          {count : ℕ} {hash : Hash} {after : List ℕ} →
+          rowSize * cpuCount b ≤ length before →
+          count ≡ cpuCount b →
+          hash ≡ hashOf (mpidrList b) →
+          after ≡ written (sourceOf b) before →
+          Met (record { number = 0; place = 0; count = count; hash = hash }) after
+      unfolding answerOf rowsAfter
+      accepts le e h wrote = let clear = at-room false (le-ltb _ _ le) in met (rw (clear, e, h)) (rw clear wrote)

@@ -1,27 +1,19 @@
 -- What the reader answers, and what it leaves in the row buffer.
 use mathlib.Core.Bool.{cond}
-use mathlib.Core.List.{List, map}
+use mathlib.Core.List.{List}
 use Prim.Native.Nat.{ℕ, _*_}
 use lib.Dec.{eqb, ltb}
 use lib.ListN.{length}
 use Rattle.laws.specs.declared.Fault.{Fault}
 use Rattle.laws.specs.Fault.{told, orElse}
-use Rattle.affinity.specs.Mask.{maskOf}
 use Rattle.affinity.specs.Hash.{hashOf}
 use Rattle.affinity.specs.List.{noHash}
 use Rattle.tables.specs.Board.{Board}
-use Rattle.tables.specs.Check.{tableFault}
-use Rattle.cpus.specs.Check.{cpusFault, cpuCount, cpuList, mpidrAt, phandlesFault, phandleList}
-use Rattle.topology.specs.Find.{mapOf, mapFault}
-use Rattle.topology.specs.Check.{cpuCells}
-use Rattle.topology.specs.Scan.{Tree, tree, cpuOf, leafList, leavesFault}
+use Rattle.cpus.specs.Check.{cpuCount, mpidrList}
 use Rattle.rows.specs.Fits.{rowSize}
-use Rattle.rows.specs.Write.{Source, source, written}
+use Rattle.rows.specs.Write.{Source, written, sourceOf}
 use Rattle.board.specs.declared.BoardAnswer.{BoardAnswer}
-
--- the tables with the map's record and the cpu records' phandles
-abbrev pub treeOf : Board → Tree
-treeOf b = tree (b .nodes) (cpuCells (b .props) (b .pool)) (b .pool) (mapOf (b .nodes) (b .pool)) (phandleList (b .nodes) (b .props) (b .pool))
+use Rattle.board.specs.Survey.{surveyFault}
 
 -- rule 27
 abbrev pub roomFault : ℕ → ℕ → ℕ
@@ -29,23 +21,7 @@ roomFault room cpus = cond (ltb room (rowSize * cpus)) 27 0
 
 -- the first of rules 1 to 27 that is broken
 unfoldable pub boardFault : Board → ℕ → Fault
-boardFault b room =
-    orElse (tableFault b)
-    (orElse (cpusFault b)
-    (orElse (mapFault (b .nodes) (b .pool))
-    (orElse (phandlesFault (b .nodes) (b .props) (b .pool)) (orElse (leavesFault (treeOf b)) (told (roomFault room (cpuCount b)) 0)))))
-
--- the MPIDRs of the cpu records
-abbrev pub mpidrList : Board → List ℕ
-mpidrList b = map (mpidrAt b) (cpuList b)
-
--- what the rows are made of: of a tree, the cpu records and their MPIDRs; of an accepted board
-abbrev pub treeSource : Tree → List ℕ → List ℕ → Source
-treeSource t records mpidrs =
-    source (t .nodes) (t .pool) records mpidrs (leafList t) (map (cpuOf t) (leafList t)) (maskOf mpidrs)
-
-abbrev pub sourceOf : Board → Source
-sourceOf b = treeSource (treeOf b) (cpuList b) (mpidrList b)
+boardFault b room = orElse (surveyFault b) (told (roomFault room (cpuCount b)) 0)
 
 -- a refusal: every other result is 0
 abbrev pub refusedWith : ℕ → ℕ → BoardAnswer

@@ -1,12 +1,11 @@
 // The board reader: a board's tables in, rows and save slots out, or the number and the place of the first rule broken.
-mod leaves;
-mod records;
+mod survey;
 
 use affinity::Hash;
 use cpus::MAX_CPUS;
-use keys::KEY_WORDS;
-use laws::BAD_CPUS_NODE;
-use records::read_records;
+use laws::NO_ROOM;
+use rows::ROW_WORDS;
+use survey::survey;
 ghost use mathlib.Core.Path.{_≡_};
 ghost use lib.ListN.{length};
 ghost use Rattle.tables.specs.Board.{board};
@@ -19,6 +18,14 @@ pub struct BoardAnswer {
     pub place: usize,
     pub count: usize,
     pub hash: Hash,
+}
+
+// What a survey answers: number 0 and place 0, with the counts of the cpu records and of the leaves; or a refusal, in which these are 0.
+struct Surveyed {
+    pub number: u32,
+    pub place: usize,
+    pub cpus: usize,
+    pub leaves: usize,
 }
 
 fn refused(number: u32, place: usize) -> BoardAnswer
@@ -54,21 +61,44 @@ pub fn read_tables(
         let b = board width (now (nodes .entry)) (now (props .entry)) (now (pool .entry)) in
         ⌜ Demands b (now (rows .entry)) r (now (rows .exit)) ⌝ }
 {
-    let fault = tables::table_fault(width, nodes, props, pool);
-    if fault.number != 0 {
-        return refused(fault.number, fault.place);
+    let mut cpus = [0usize; MAX_CPUS];
+    let mut mpidrs = [0u64; MAX_CPUS];
+    let mut leaves = [0usize; MAX_CPUS];
+    let mut named = [0usize; MAX_CPUS];
+    let found = survey(
+        width,
+        nodes,
+        props,
+        pool,
+        &mut cpus,
+        &mut mpidrs,
+        &mut leaves,
+        &mut named,
+    );
+    if found.number != 0 {
+        return refused(found.number, found.place);
     }
-    let cells = cpus::read_cells(width, nodes, props, pool);
-    if cells == 0 {
-        return refused(BAD_CPUS_NODE, 0);
+    let count = found.cpus;
+    if rows.len() / ROW_WORDS < count {
+        return refused(NO_ROOM, 0);
     }
-    let mut records = [0usize; MAX_CPUS];
-    let count = cpus::list_cpus(nodes, pool, &mut records);
-    let number = cpus::count_fault(count);
-    if number != 0 {
-        return refused(number, 0);
+    let listed = &mpidrs[..count];
+    let hash = affinity::hash_of_mask(affinity::mask_of(listed));
+    let leaf_count = found.leaves;
+    rows::write_rows(
+        rows,
+        nodes,
+        pool,
+        &cpus[..count],
+        listed,
+        &leaves[..leaf_count],
+        &named[..leaf_count],
+        hash,
+    );
+    BoardAnswer {
+        number: 0,
+        place: 0,
+        count,
+        hash,
     }
-    let mut keys = [0u16; KEY_WORDS];
-    keys::index_keys(props, pool, &mut keys);
-    read_records(nodes, props, pool, &keys, cells, &records[..count], rows)
 }

@@ -6,12 +6,11 @@ use native.Mathlib.Omega.{arith}
 use Rattle.laws.proofs.FirstLaws.{compared}
 use Rattle.tables.specs.Board.{Board, Typed}
 use Rattle.tables.specs.Rules.{WellFormed}
-use Rattle.cpus.specs.declared.Cell.{Cell}
-use Rattle.cpus.specs.declared.Mpidr.{Mpidr}
+use Rattle.cpus.specs.declared.Reading.{Reading}
 use Rattle.cpus.specs.Node.{Cpu, Reg, mpidr, Phandle}
 use Rattle.cpus.specs.Rules.{CpuRule, SoundCpus}
-use Rattle.cpus.specs.Check.{mpidrNumber, mpidrAt, phandleOf, cellNumber}
-use Rattle.cpus.proofs.RegMeans.{reg-bounds, value-reg, RegSays, reg-says, test-mpidr, PhandleSays, phandle-says, phandle-test}
+use Rattle.cpus.specs.Check.{mpidrAt, phandleReadings}
+use Rattle.cpus.proofs.RegMeans.{reg-bounds, value-reg, MpidrSays, mpidr-says, PhandleSays, phandle-says}
 use Rattle.cpus.proofs.PairMeans.{mpidr-apart}
 use Rattle.cpus.proofs.FaultMeans.{Verdict, Root, CountRange, root-told, count-told}
 
@@ -35,11 +34,12 @@ module _ {b : Board} (typed : Typed b) (well : WellFormed b) where
 
     -- each cpu record has a `reg`, which is its MPIDR ..
     pub cpu-reg : {i : ℕ} → Cpu b i → (u : ℕ) × (l : ℕ) × Reg b i u l × (mpidrAt b i ≡ mpidr u l)
-    cpu-reg {i} c = go (reg-says typed well (root-given .cells) i)
+    cpu-reg {i} c = go (mpidr-says typed well i (root-given .cells))
       where
-        go : {m : Mpidr} → RegSays b i m → (u : ℕ) × (l : ℕ) × Reg b i u l × (mpidrAt b i ≡ mpidr u l)
-        go (RegSays.reg {u = u} {l = l} r _) = (u, l, r, ap mpidrNumber (test-mpidr typed well r))
-        go (RegSays.none f) = absurd (sound 12 i (CpuRule.reg i c f) (omega arith))
+        go : {q : Reading} → MpidrSays b i q → (u : ℕ) × (l : ℕ) × Reg b i u l × (q .value ≡ mpidr u l)
+        go (MpidrSays.reg {u = u} {l = l} _ r e) = (u, l, r, e)
+        go (MpidrSays.untyped f) = absurd (sound 11 i (CpuRule.deviceType i c f) (omega arith))
+        go (MpidrSays.unread _ f) = absurd (sound 12 i (CpuRule.reg i c f) (omega arith))
 
     -- .. and no other cpu record has the same
     pub reg-apart : {i j u l : ℕ} → Cpu b i → Cpu b j → Reg b i u l → Reg b j u l → i ≡ j
@@ -59,11 +59,11 @@ module _ {b : Board} (typed : Typed b) (well : WellFormed b) where
 
   module _ (none : (p : ℕ) → CpuRule b 17 p → ⊥) where
     -- each cpu record has a phandle ..
-    pub cpu-phandle : {i : ℕ} → Cpu b i → (h : ℕ) × Phandle b i h × (cellNumber (phandleOf (b .props) (b .pool) i) ≡ h)
+    pub cpu-phandle : {i : ℕ} → Cpu b i → Phandle b i (phandleReadings b i .value)
     cpu-phandle {i} c = go (phandle-says typed well i)
       where
-        go : {x : Cell} → PhandleSays b i x → (h : ℕ) × Phandle b i h × (cellNumber (phandleOf (b .props) (b .pool) i) ≡ h)
-        go (PhandleSays.phandle {h = h} p) = (h, p, ap cellNumber (phandle-test typed well i .1 p))
+        go : {q : Reading} → PhandleSays b i q → Phandle b i (q .value)
+        go (PhandleSays.phandle p) = p
         go (PhandleSays.none f) = absurd (none i (CpuRule.phandle i c f))
 
     -- .. and no other cpu record has the same
@@ -73,9 +73,5 @@ module _ {b : Board} (typed : Typed b) (well : WellFormed b) where
         later : {i j h : ℕ} → Cpu b i → Cpu b j → Phandle b i h → Phandle b j h → j < i → ⊥
         later {i} {j} {h} c d p q lt = none i (CpuRule.repeatedPhandle i j h c d lt p q)
 
-    pub phandle-distinct : {i j : ℕ} → Cpu b i → Cpu b j → cellNumber (phandleOf (b .props) (b .pool) i) ≡ cellNumber (phandleOf (b .props) (b .pool) j) → i ≡ j
-    phandle-distinct c d e =
-        let p = cpu-phandle c in
-        let q = cpu-phandle d in
-        let same : q .0 ≡ p .0 = sym (q .2) ∙ sym e ∙ p .2 in
-        phandle-apart c d (p .1) (rw same at (q .1))
+    pub phandle-distinct : {i j : ℕ} → Cpu b i → Cpu b j → phandleReadings b i .value ≡ phandleReadings b j .value → i ≡ j
+    phandle-distinct c d e = phandle-apart c d (cpu-phandle c) (rw (sym e) at (cpu-phandle d))

@@ -5,11 +5,8 @@ use mathlib.Core.Logic.{⊎-elim}
 use mathlib.Core.List.{List}
 use Prim.Native.Nat.{ℕ, _≤_, _<_}
 use native.Mathlib.Omega.{arith}
-use lib.Dec.{ltb}
-use borrow.Author.Tests.{le-ltb}
 use Rattle.laws.specs.declared.Fault.{Fault}
 use Rattle.laws.specs.Fault.{clear, told, orElse, firstFault}
-use Rattle.laws.specs.Search.{countBelow}
 use Rattle.laws.proofs.FaultLaws.{place-le}
 use Rattle.laws.proofs.FirstLaws.{Tells, Stage, stage-tells, end-tells}
 use Rattle.laws.proofs.RuleStageLaws.{else-assoc, Clears, first-clears, else-clears, else-clear, told-place, else-place, Once, once-tells}
@@ -18,20 +15,20 @@ use Rattle.tables.specs.Board.{Board, Typed, nodeCount}
 use Rattle.tables.specs.Order.{stage}
 use Rattle.tables.specs.Rules.{WellFormed}
 use Rattle.cpus.specs.Node.{Cpu, AddressCells}
-use Rattle.cpus.specs.Rules.{maxCpus, CpuRule, SoundCpus}
-use Rattle.cpus.specs.Check.{isCpu, addressCells, rootFault, cpuCount, countFault, cpuFault, cpusFault, phandleFault, phandlesFault}
+use Rattle.cpus.specs.Rules.{CpuRule, SoundCpus}
+use Rattle.cpus.specs.Check.{isCpu, addressCells, rootFault, cpuCount, countFault, mpidrReadings, phandleReadings, cpuFault, cpusFault, phandlesFault}
+use Rattle.cpus.proofs.ScanLaws.{first-gathered}
 use Rattle.cpus.proofs.RegMeans.{value-reg}
-use Rattle.cpus.proofs.FaultMeans.{Verdict, Root, CpuSays, OwnPhandle, root-told, count-told, cpu-says, phandle-told}
-use Rattle.cpus.proofs.CpuGives.{count-range}
+use Rattle.cpus.proofs.FaultMeans.{Verdict, Root, CpuSays, OwnPhandle, cpuFaultAt, phandleFaultAt, root-told, count-told, cpu-says, phandle-told}
 use Rattle.cpus.proofs.RuleMeans.{staged, at-seven, at-eight, at-nine, at-twelve, early}
 
--- with at most 256 cpu records, the first that breaks rule 17
-phandles-are :
-    {b : Board} (typed : Typed b) (well : WellFormed b) →
-    SoundCpus b →
-    phandlesFault (b .nodes) (b .props) (b .pool) ≡ firstFault (phandleFault (b .nodes) (b .props) (b .pool)) (nodeCount (b .nodes))
-unfolding phandlesFault
-phandles-are {b} typed well sound = rw (le-ltb maxCpus (cpuCount b) (count-range typed well sound .1))
+-- the stages of the cpu records, place by place
+module _ (b : Board) where
+  cpu-places : cpuFault b ≡ firstFault (cpuFaultAt b) (nodeCount (b .nodes))
+  cpu-places = first-gathered (isCpu (b .nodes) (b .pool)) (mpidrReadings b) 13 (nodeCount (b .nodes))
+
+  phandle-places : phandlesFault b ≡ firstFault (phandleFaultAt b) (nodeCount (b .nodes))
+  phandle-places = first-gathered (isCpu (b .nodes) (b .pool)) (phandleReadings b) 17 (nodeCount (b .nodes))
 
 module _ {b : Board} (typed : Typed b) (well : WellFormed b) (R : ℕ → ℕ → Type 0) where
   module _
@@ -60,12 +57,12 @@ module _ {b : Board} (typed : Typed b) (well : WellFormed b) (R : ℕ → ℕ �
         once (count-told typed well) (λ z. omega arith) (omega arith) refl
         (λ m q r e. at-eight well (staged well (back m q r (omega arith) (omega arith))) e)
 
-    cpu-stage : AddressCells b (addressCells b) → Stage stage R 9 (nodeCount (b .nodes)) (cpuFault b)
+    cpu-stage : AddressCells b (addressCells b) → Stage stage R 9 (nodeCount (b .nodes)) (cpuFaultAt b)
     cpu-stage a =
         record {
           inside = λ m q r e. at m q r e .0 .child .inside;
-          sound = λ q _ _. broken (cpu-says typed well a q);
-          least = λ q _ _ m r e. at m q r e .1 (cpuFault b q) (cpu-says typed well a q);
+          sound = λ q _ none. broken (cpu-says typed well a q none);
+          least = λ q _ none m r e. at m q r e .1 (cpuFaultAt b q) (cpu-says typed well a q none);
         }
       where
         at : (m q : ℕ) → R m q → stage m ≡ 9 → Cpu b q × ((v : ℕ) → CpuSays b q v → (v ≡ 0 → ⊥) × (v ≤ m))
@@ -89,8 +86,9 @@ module _ {b : Board} (typed : Typed b) (well : WellFormed b) (R : ℕ → ℕ �
         (λ none-root.
         once-tells stage R 8 (countFault (cpuCount b)) (orElse third after) count-once
         (λ none-count.
-        stage-tells stage R 9 (nodeCount (b .nodes)) (cpuFault b) after (cpu-stage (cells (λ r. none-root 9 0 r refl) (root-told typed well)))
-        (λ none-cpu. rest (λ n p r lt. let x = into n p r lt in ⊎-elim (none-root n p x) (⊎-elim (none-count n p x) (none-cpu n p x)) (early well (staged well r) lt))))))
+        rw (cpu-places b)
+        (stage-tells stage R 9 (nodeCount (b .nodes)) (cpuFaultAt b) after (cpu-stage (cells (λ r. none-root 9 0 r refl) (root-told typed well)))
+        (λ none-cpu. rest (λ n p r lt. let x = into n p r lt in ⊎-elim (none-root n p x) (⊎-elim (none-count n p x) (none-cpu n p x)) (early well (staged well r) lt)))))))
       where
         first : Fault
         first = told (rootFault b) 0
@@ -99,19 +97,19 @@ module _ {b : Board} (typed : Typed b) (well : WellFormed b) (R : ℕ → ℕ �
         second = told (countFault (cpuCount b)) 0
 
         third : Fault
-        third = firstFault (cpuFault b) (nodeCount (b .nodes))
+        third = cpuFault b
 
         cells : (R 9 0 → ⊥) → {v : ℕ} → Verdict b 9 0 (Root b) v → AddressCells b (addressCells b)
         cells none (Verdict.sound r) = r .cells
         cells none (Verdict.broken r) = absurd (none (into 9 0 r (omega arith)))
 
   module _ (into : (p : ℕ) → CpuRule b 17 p → R 17 p) (back : (n p : ℕ) → R n p → stage n ≡ 12 → CpuRule b n p) where
-    phandle-stage : Stage stage R 12 (nodeCount (b .nodes)) (phandleFault (b .nodes) (b .props) (b .pool))
+    phandle-stage : Stage stage R 12 (nodeCount (b .nodes)) (phandleFaultAt b)
     phandle-stage =
         record {
           inside = λ m q r e. at m q r e .1 .child .inside;
-          sound = λ q _ _. broken (phandle-told typed well q);
-          least = λ q _ _ m r e. let t = at m q r e in least (phandle-told typed well q) (t .2) (t .0);
+          sound = λ q _ none. broken (phandle-told typed well q none);
+          least = λ q _ none m r e. let t = at m q r e in least (phandle-told typed well q none) (t .2) (t .0);
         }
       where
         at : (m q : ℕ) → R m q → stage m ≡ 12 → (m ≡ 17) × Cpu b q × (OwnPhandle b q → ⊥)
@@ -130,10 +128,10 @@ module _ {b : Board} (typed : Typed b) (well : WellFormed b) (R : ℕ → ℕ �
         SoundCpus b →
         (after : Fault) →
         (((p : ℕ) → CpuRule b 17 p → ⊥) → Tells stage R 13 after) →
-        Tells stage R 12 (orElse (phandlesFault (b .nodes) (b .props) (b .pool)) after)
+        Tells stage R 12 (orElse (phandlesFault b) after)
     late-tells sound after rest =
-        rw (phandles-are typed well sound)
-        (stage-tells stage R 12 (nodeCount (b .nodes)) (phandleFault (b .nodes) (b .props) (b .pool)) after phandle-stage
+        rw (phandle-places b)
+        (stage-tells stage R 12 (nodeCount (b .nodes)) (phandleFaultAt b) after phandle-stage
         (λ none. rest (λ p r. none 17 p (into p r) refl)))
 
   -- a family with all these rules, in which no other rule is of their stages
@@ -150,7 +148,7 @@ module _ {b : Board} (typed : Typed b) (well : WellFormed b) (R : ℕ → ℕ �
         SoundCpus b →
         (after : Fault) →
         (((p : ℕ) → CpuRule b 17 p → ⊥) → Tells stage R 13 after) →
-        Tells stage R 12 (orElse (phandlesFault (b .nodes) (b .props) (b .pool)) after)
+        Tells stage R 12 (orElse (phandlesFault b) after)
     phandles-tells = late-tells (into 17)
 
 -- what is told where no rule is broken, and of which places
@@ -158,36 +156,24 @@ module _ (b : Board) where
   pub cpus-clears : Clears (cpusFault b)
   unfolding cpusFault
   cpus-clears =
-      else-clears (told (rootFault b) 0) (orElse (told (countFault (cpuCount b)) 0) (firstFault (cpuFault b) (nodeCount (b .nodes))))
-      (else-clears (told (countFault (cpuCount b)) 0) (firstFault (cpuFault b) (nodeCount (b .nodes))) (first-clears (cpuFault b) (nodeCount (b .nodes))))
+      else-clears (told (rootFault b) 0) (orElse (told (countFault (cpuCount b)) 0) (cpuFault b))
+      (else-clears (told (countFault (cpuCount b)) 0) (cpuFault b) (rw (cpu-places b) (first-clears (cpuFaultAt b) (nodeCount (b .nodes)))))
 
   pub cpus-place : cpusFault b .place ≤ nodeCount (b .nodes)
   unfolding cpusFault
   cpus-place =
-      let count = nodeCount (b .nodes) in
-      else-place (told (rootFault b) 0) (orElse (told (countFault (cpuCount b)) 0) (firstFault (cpuFault b) count))
+      else-place (told (rootFault b) 0) (orElse (told (countFault (cpuCount b)) 0) (cpuFault b))
       (omega (arith, told-place (rootFault b) 0))
       (λ _.
-      else-place (told (countFault (cpuCount b)) 0) (firstFault (cpuFault b) count)
+      else-place (told (countFault (cpuCount b)) 0) (cpuFault b)
       (omega (arith, told-place (countFault (cpuCount b)) 0))
-      (λ _. place-le (cpuFault b) count))
+      (λ _. rw (cpu-places b) (place-le (cpuFaultAt b) (nodeCount (b .nodes)))))
 
-module _ (nodes props pool : List ℕ) where
-  pub phandles-clears : Clears (phandlesFault nodes props pool)
-  unfolding phandlesFault
-  phandles-clears = go (ltb maxCpus (countBelow (isCpu nodes pool) (nodeCount nodes)))
-    where
-      go : (t : Bool) → Clears (cond t (told 10 0) (firstFault (phandleFault nodes props pool) (nodeCount nodes)))
-      go true = λ z. absurd (omega arith)
-      go false = first-clears (phandleFault nodes props pool) (nodeCount nodes)
+  pub phandles-clears : Clears (phandlesFault b)
+  phandles-clears = rw (phandle-places b) (first-clears (phandleFaultAt b) (nodeCount (b .nodes)))
 
-  pub phandles-place : phandlesFault nodes props pool .place ≤ nodeCount nodes
-  unfolding phandlesFault
-  phandles-place = go (ltb maxCpus (countBelow (isCpu nodes pool) (nodeCount nodes)))
-    where
-      go : (t : Bool) → cond t (told 10 0) (firstFault (phandleFault nodes props pool) (nodeCount nodes)) .place ≤ nodeCount nodes
-      go true = omega arith
-      go false = place-le (phandleFault nodes props pool) (nodeCount nodes)
+  pub phandles-place : phandlesFault b .place ≤ nodeCount (b .nodes)
+  phandles-place = rw (phandle-places b) (place-le (phandleFaultAt b) (nodeCount (b .nodes)))
 
 module _ {b : Board} (typed : Typed b) (well : WellFormed b) where
   abbrev Early : ℕ → ℕ → Type 0
@@ -214,7 +200,7 @@ module _ {b : Board} (typed : Typed b) (well : WellFormed b) where
   cpus-clear sound = cpus-clears b (cpus-sound .1 sound)
 
   abbrev phandles : Fault
-  phandles = phandlesFault (b .nodes) (b .props) (b .pool)
+  phandles = phandlesFault b
 
   abbrev Late : ℕ → ℕ → Type 0
   Late n p = CpuRule b n p × (n ≡ 17)
@@ -222,7 +208,7 @@ module _ {b : Board} (typed : Typed b) (well : WellFormed b) where
   module _ (sound : SoundCpus b) where
     phandles-tell : Tells stage Late 12 phandles
     phandles-tell =
-        subst (Tells stage Late 12) (else-clear phandles (phandles-clears (b .nodes) (b .props) (b .pool)))
+        subst (Tells stage Late 12) (else-clear phandles (phandles-clears b))
         (late-tells typed well Late (λ p r. (r, refl)) (λ n p r _. r .0) sound clear
         (λ _. end-tells stage Late 13 (λ m q r. rw (r .1) (omega arith))))
 
@@ -234,4 +220,4 @@ module _ {b : Board} (typed : Typed b) (well : WellFormed b) where
     )
 
     pub phandles-clear : ((p : ℕ) → CpuRule b 17 p → ⊥) → phandles ≡ clear
-    phandles-clear none = phandles-clears (b .nodes) (b .props) (b .pool) (phandles-sound .1 none)
+    phandles-clear none = phandles-clears b (phandles-sound .1 none)

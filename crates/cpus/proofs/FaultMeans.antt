@@ -1,14 +1,13 @@
 -- What the checks of rules 9 to 13 and 17 answer of one place: what the board then has, or the rule that it breaks. Assumes nothing.
-use mathlib.Core.Path.{_≡_, refl, sym, ap, _∙_}
+use mathlib.Core.Path.{_≡_, refl, sym, ap, ap₂, _∙_}
 use mathlib.Core.Bool.{Bool, true, false, cond}
 use mathlib.Core.Logic.{⊎-elim}
 use Prim.Native.Nat.{ℕ, _≤_, _<_}
 use native.Mathlib.Omega.{arith}
 use lib.Dec.{eqb, ltb}
 use borrow.Author.Tests.{eqb-true, eqb-false, ltb-true, ltb-false}
-use Rattle.laws.specs.Search.{anyBelow}
 use Rattle.laws.proofs.SearchLaws.{true-false}
-use Rattle.laws.proofs.DecideLaws.{Decides, decides-not, decides-as, eq-decides, both-decides, any-decides}
+use Rattle.laws.proofs.DecideLaws.{Decides, decides-not, decides-as, eq-decides}
 use Rattle.tables.specs.Board.{Board, Typed, rangeIs, nodeName, nameOffset, nameLength}
 use Rattle.tables.specs.Property.{HasValue, cellBytes}
 use Rattle.tables.specs.Rules.{WellFormed}
@@ -16,17 +15,18 @@ use Rattle.tables.proofs.WellFormedLaws.{wf-nodes, wf-name}
 use Rattle.tables.proofs.CellLaws.{cell-bytes-apart}
 use Rattle.cpus.specs.declared.Cell.{Cell}
 use Rattle.cpus.specs.declared.Cell.the-variants as cell
-use Rattle.cpus.specs.declared.Mpidr.{Mpidr}
-use Rattle.cpus.specs.declared.Mpidr.the-variants as read
 use Rattle.keys.specs.Key.{deviceTypeKey}
 use Rattle.cpus.specs.Words.{cpusWord, cpuString, sizeCellsKey}
 use Rattle.cpus.specs.Node.{Cpu, AddressCells, SizeCells, Reg, mpidr, Phandle}
 use Rattle.cpus.specs.Rules.{maxCpus, CpuRule}
-use Rattle.cpus.specs.Cell.{cellOf, mpidrOf}
-use Rattle.cpus.specs.Check.{isCpu, addressCells, isZeroCell, rootFault, cpuCount, cpuList, countFault, sameMpidr, mpidrFault, cpuFault, phandleOf, sameCell, cellFault, phandleFault}
+use Rattle.cpus.specs.Cell.{cellOf}
+use Rattle.cpus.specs.declared.Reading.{Reading}
+use Rattle.cpus.specs.Gather.{unlessSeen}
+use Rattle.cpus.specs.Check.{isCpu, addressCells, isZeroCell, rootFault, cpuCount, cpuList, countFault, mpidrReadings, phandleReadings}
+use Rattle.cpus.proofs.ScanLaws.{gatherFault, seen-decides}
 use Rattle.cpus.proofs.CpuMeans.{range-test, cpu-test, cpu-listing, cpu-count}
-use Rattle.cpus.proofs.ValueMeans.{value-unique, has-value-test, CellSays, cell-says}
-use Rattle.cpus.proofs.RegMeans.{cells-cases, cells-test, test-cells, reg-bounds, RegSays, reg-says, mpidr-test, test-mpidr, PhandleSays, phandle-says, phandle-test}
+use Rattle.cpus.proofs.ValueMeans.{value-unique, CellSays, cell-says}
+use Rattle.cpus.proofs.RegMeans.{cells-cases, cells-test, test-cells, reg-bounds, reg-unique, MpidrSays, mpidr-says, mpidr-read, PhandleSays, phandle-says, phandle-read, phandle-unique}
 use Rattle.cpus.proofs.PairMeans.{mpidr-apart}
 
 -- the number told of rule n at a place: 0 where P holds, and n where the rule is broken
@@ -56,16 +56,12 @@ pub data CpuSays (b : Board) (i : ℕ) : ℕ → Type 0 where
 abbrev pub OwnPhandle : Board → ℕ → Type 0
 OwnPhandle b i = Cpu b i → (h : ℕ) × Phandle b i h × ((j : ℕ) → j < i → Cpu b j → Phandle b j h → ⊥)
 
--- two MPIDRs that are there and equal, and two cells
-same-mpidr-test : (c d : Mpidr) → Decides (sameMpidr c d) ((m : ℕ) × (c ≡ read.Is m) × (d ≡ read.Is m))
-same-mpidr-test (read.Is m) (read.Is n) = decides-as (eq-decides m n) (λ e. (n, ap read.Is e, refl)) (λ t. let e = t .1 in let f = t .2 in cc)
-same-mpidr-test (read.Is m) read.Not = (λ e. true-false e refl, λ t. let f = t .2 in let z : _≡_ {A = ℕ} 0 1 = cc in absurd (omega arith))
-same-mpidr-test read.Not d = (λ e. true-false e refl, λ t. let f = t .1 in let z : _≡_ {A = ℕ} 0 1 = cc in absurd (omega arith))
+-- what the cpu records tell, place by place
+abbrev pub cpuFaultAt : Board → ℕ → ℕ
+cpuFaultAt b = gatherFault (isCpu (b .nodes) (b .pool)) (mpidrReadings b) 13
 
-same-cell-test : (c d : Cell) → Decides (sameCell c d) ((h : ℕ) × (c ≡ cell.Is h) × (d ≡ cell.Is h))
-same-cell-test (cell.Is m) (cell.Is n) = decides-as (eq-decides m n) (λ e. (n, ap cell.Is e, refl)) (λ t. let e = t .1 in let f = t .2 in cc)
-same-cell-test (cell.Is m) cell.Not = (λ e. true-false e refl, λ t. let f = t .2 in let z : _≡_ {A = ℕ} 0 1 = cc in absurd (omega arith))
-same-cell-test cell.Not d = (λ e. true-false e refl, λ t. let f = t .1 in let z : _≡_ {A = ℕ} 0 1 = cc in absurd (omega arith))
+abbrev pub phandleFaultAt : Board → ℕ → ℕ
+phandleFaultAt b = gatherFault (isCpu (b .nodes) (b .pool)) (phandleReadings b) 17
 
 module _ {b : Board} (typed : Typed b) (well : WellFormed b) where
   no-cells : addressCells b ≡ 0 → (n : ℕ) → AddressCells b n → ⊥
@@ -117,78 +113,68 @@ module _ {b : Board} (typed : Typed b) (well : WellFormed b) where
           let ne = eqb-false (cpuCount b) 0 e in
           Verdict.sound (omega arith, ltb-false maxCpus (cpuCount b) f)
 
-  -- some earlier cpu record has the `reg` of record i
-  seen-test :
-      {i u l : ℕ} →
-      AddressCells b (addressCells b) →
-      Reg b i u l →
-      Decides
-      (anyBelow
-      (λ j. cond (isCpu (b .nodes) (b .pool) j) (sameMpidr (mpidrOf (b .props) (b .pool) (addressCells b) j) (mpidrOf (b .props) (b .pool) (addressCells b) i)) false)
-      i)
-      ((j : ℕ) × (j < i) × (Cpu b j × Reg b j u l))
-  seen-test {i} {u} {l} a r = any-decides _ i (λ j. both-decides (cpu-test well j) (same j))
-    where
-      same : (j : ℕ) → Decides (sameMpidr (mpidrOf (b .props) (b .pool) (addressCells b) j) (mpidrOf (b .props) (b .pool) (addressCells b) i)) (Reg b j u l)
-      same j =
-          decides-as
-          (same-mpidr-test (mpidrOf (b .props) (b .pool) (addressCells b) j) (mpidrOf (b .props) (b .pool) (addressCells b) i))
-          (λ t. to (t .1) (t .2))
-          (λ s. (mpidr u l, test-mpidr typed well s, test-mpidr typed well r))
-        where
-          to : {m : ℕ} → mpidrOf (b .props) (b .pool) (addressCells b) j ≡ read.Is m → mpidrOf (b .props) (b .pool) (addressCells b) i ≡ read.Is m → Reg b j u l
-          to {m} e f =
-              let t = mpidr-test typed well a j e in
-              let g = reg-bounds r in
-              let h = reg-bounds (t .2) in
-              let q : read.Is (mpidr u l) ≡ read.Is m = sym (test-mpidr typed well r) ∙ f in
-              let x : mpidr u l ≡ m = cc in
-              let p = mpidr-apart u l (g .0) (g .1) (t .0) (t .1) (h .0) (h .1) (x ∙ t .3) in
-              rw (p .0, p .1) (t .2)
+  -- of two sound readings: the same number, the same `reg`
+  same-reg : AddressCells b (addressCells b) → {i j u l : ℕ} → Reg b i u l → mpidrReadings b i .number ≡ 0 → mpidrReadings b j .number ≡ 0 → Decides (eqb (mpidrReadings b j .value) (mpidrReadings b i .value)) (Reg b j u l)
+  same-reg a {i} {j} {u} {l} r zi zj =
+      let s = mpidr-read typed well i a zi in
+      let t = mpidr-read typed well j a zj in
+      let own = reg-unique well (s .2) r in
+      decides-as (eq-decides (mpidrReadings b j .value) (mpidrReadings b i .value))
+      (λ e.
+      let g = reg-bounds (t .2) in
+      let h = reg-bounds (s .2) in
+      let p = mpidr-apart (t .0) (t .1) (g .0) (g .1) (s .0) (s .1) (h .0) (h .1) (sym (t .3) ∙ e ∙ s .3) in
+      rw (← own .0, ← own .1, ← p .0, ← p .1) (t .2))
+      (λ q. let other = reg-unique well (t .2) q in t .3 ∙ ap₂ mpidr (other .0) (other .1) ∙ sym (s .3 ∙ ap₂ mpidr (own .0) (own .1)))
 
-  pub cpu-says : AddressCells b (addressCells b) → (i : ℕ) → CpuSays b i (cpuFault b i)
-  unfolding cpuFault
-  cpu-says a i = go (isCpu (b .nodes) (b .pool) i) (cpu-test well i) _ (has-value-test well cpuString) (reg-says typed well a i) _ (λ u l. seen-test a)
+  pub cpu-says : AddressCells b (addressCells b) → (i : ℕ) → ((j : ℕ) → j < i → cpuFaultAt b j ≡ 0) → CpuSays b i (cpuFaultAt b i)
+  unfolding gatherFault
+  cpu-says a i none =
+      go (isCpu (b .nodes) (b .pool) i) (cpu-test well i) (mpidr-says typed well i a) _
+      (λ u l r z. seen-decides (isCpu (b .nodes) (b .pool)) (mpidrReadings b) 13 i none (λ j. same-reg a r z))
     where
       go :
           (t : Bool) →
           Decides t (Cpu b i) →
-          (s : Bool) →
-          Decides s (HasValue b i deviceTypeKey cpuString) →
-          {c : Mpidr} →
-          RegSays b i c →
+          {q : Reading} →
+          MpidrSays b i q →
           (seen : Bool) →
-          ((u l : ℕ) → Reg b i u l → Decides seen ((j : ℕ) × (j < i) × (Cpu b j × Reg b j u l))) →
-          CpuSays b i (cond t (cond s (mpidrFault seen c) 11) 0)
-      go false cpu s kind c seen e = CpuSays.other (decides-not cpu .0 refl)
-      go true cpu false kind c seen e = CpuSays.untyped (cpu .0 refl) (decides-not kind .0 refl)
-      go true cpu true kind (RegSays.none f) seen e = CpuSays.unread (cpu .0 refl) (kind .0 refl) f
-      go true cpu true kind (RegSays.reg {u = u} {l = l} r q) true e = let t = e u l r .0 refl in CpuSays.repeated (cpu .0 refl) (kind .0 refl) r (t .1) (t .2 .0) (t .2 .1)
-      go true cpu true kind (RegSays.reg {u = u} {l = l} r q) false e =
-          CpuSays.sound (cpu .0 refl) (kind .0 refl) r (λ j lt c s. decides-not (e u l r) .0 refl (j, lt, (c, s)))
+          ((u l : ℕ) → Reg b i u l → q .number ≡ 0 → Decides seen ((j : ℕ) × (j < i) × ((isCpu (b .nodes) (b .pool) j ≡ true) × Reg b j u l))) →
+          CpuSays b i (cond t (unlessSeen 13 seen q .number) 0)
+      go false cpu q seen e = CpuSays.other (decides-not cpu .0 refl)
+      go true cpu (MpidrSays.untyped f) seen e = CpuSays.untyped (cpu .0 refl) f
+      go true cpu (MpidrSays.unread k f) seen e = CpuSays.unread (cpu .0 refl) k f
+      go true cpu (MpidrSays.reg {u = u} {l = l} k r _) true e =
+          let t = e u l r refl .0 refl in
+          CpuSays.repeated (cpu .0 refl) k r (t .1) (cpu-test well (t .0) .0 (t .2 .0)) (t .2 .1)
+      go true cpu (MpidrSays.reg {u = u} {l = l} k r _) false e =
+          CpuSays.sound (cpu .0 refl) k r (λ j lt c s. decides-not (e u l r refl) .0 refl (j, lt, (cpu-test well j .1 c, s)))
 
-  pub phandle-told : (i : ℕ) → Verdict b 17 i (OwnPhandle b i) (phandleFault (b .nodes) (b .props) (b .pool) i)
-  unfolding phandleFault
-  phandle-told i = go (isCpu (b .nodes) (b .pool) i) (cpu-test well i) (phandle-says typed well i) _ (λ h p. any-decides _ i (λ j. both-decides (cpu-test well j) (same h p j)))
+  pub phandle-told : (i : ℕ) → ((j : ℕ) → j < i → phandleFaultAt b j ≡ 0) → Verdict b 17 i (OwnPhandle b i) (phandleFaultAt b i)
+  unfolding gatherFault
+  phandle-told i none =
+      go (isCpu (b .nodes) (b .pool) i) (cpu-test well i) (phandle-says typed well i) _
+      (λ h p z. seen-decides (isCpu (b .nodes) (b .pool)) (phandleReadings b) 17 i none (λ j. same h p z j))
     where
-      same : (h : ℕ) → Phandle b i h → (j : ℕ) → Decides (sameCell (phandleOf (b .props) (b .pool) j) (phandleOf (b .props) (b .pool) i)) (Phandle b j h)
-      same h p j =
-          decides-as
-          (same-cell-test (phandleOf (b .props) (b .pool) j) (phandleOf (b .props) (b .pool) i))
-          (λ t. let e = t .1 in let f = t .2 in let g = phandle-test typed well i .1 p in phandle-test typed well j .0 (cc))
-          (λ q. (h, phandle-test typed well j .1 q, phandle-test typed well i .1 p))
+      same : (h : ℕ) → Phandle b i h → phandleReadings b i .number ≡ 0 → (j : ℕ) → phandleReadings b j .number ≡ 0 → Decides (eqb (phandleReadings b j .value) (phandleReadings b i .value)) (Phandle b j h)
+      same h p zi j zj =
+          let own = phandle-unique well (phandle-read typed well i zi) p in
+          decides-as (eq-decides (phandleReadings b j .value) (phandleReadings b i .value))
+          (λ e. rw (e ∙ own) at (phandle-read typed well j zj))
+          (λ q. phandle-unique well (phandle-read typed well j zj) q ∙ sym own)
 
       go :
           (t : Bool) →
           Decides t (Cpu b i) →
-          {c : Cell} →
-          PhandleSays b i c →
+          {q : Reading} →
+          PhandleSays b i q →
           (seen : Bool) →
-          ((h : ℕ) → Phandle b i h → Decides seen ((j : ℕ) × (j < i) × (Cpu b j × Phandle b j h))) →
-          Verdict b 17 i (OwnPhandle b i) (cond t (cellFault seen c) 0)
-      go false cpu c seen e = Verdict.sound (λ k. absurd (decides-not cpu .0 refl k))
+          ((h : ℕ) → Phandle b i h → q .number ≡ 0 → Decides seen ((j : ℕ) × (j < i) × ((isCpu (b .nodes) (b .pool) j ≡ true) × Phandle b j h))) →
+          Verdict b 17 i (OwnPhandle b i) (cond t (unlessSeen 17 seen q .number) 0)
+      go false cpu q seen e = Verdict.sound (λ k. absurd (decides-not cpu .0 refl k))
       go true cpu (PhandleSays.none f) seen e = Verdict.broken (CpuRule.phandle i (cpu .0 refl) f)
       go true cpu (PhandleSays.phandle {h = h} p) true e =
-          let t = e h p .0 refl in
-          Verdict.broken (CpuRule.repeatedPhandle i (t .0) h (cpu .0 refl) (t .2 .0) (t .1) p (t .2 .1))
-      go true cpu (PhandleSays.phandle {h = h} p) false e = Verdict.sound (λ _. (h, p, λ j lt c q. decides-not (e h p) .0 refl (j, lt, (c, q))))
+          let t = e h p refl .0 refl in
+          Verdict.broken (CpuRule.repeatedPhandle i (t .0) h (cpu .0 refl) (cpu-test well (t .0) .0 (t .2 .0)) (t .1) p (t .2 .1))
+      go true cpu (PhandleSays.phandle {h = h} p) false e =
+          Verdict.sound (λ _. (h, p, λ j lt c q. decides-not (e h p refl) .0 refl (j, lt, (cpu-test well j .1 c, q))))

@@ -8,7 +8,7 @@ use native.Mathlib.Omega.{arith}
 use lib.Dec.{eqb}
 use lib.ListN.{length, getD, take, set, length-map}
 use lib.Seq.{length-take-le, take-suc}
-use borrow.Author.Tests.{ne-eqb, le-ltb}
+use borrow.Author.Tests.{ne-eqb}
 use Rattle.laws.specs.declared.Fault.{Fault}
 use Rattle.laws.specs.Fault.{clear, firstFault}
 use Rattle.laws.specs.Search.{isAmong}
@@ -16,7 +16,7 @@ use Rattle.laws.specs.Listed.{over, toldOf, passedOf}
 use Rattle.laws.proofs.FaultLaws.{told-at, clear-more, at-fault, at-end}
 use Rattle.laws.proofs.OverLaws.{over-none, over-length, over-front, over-push}
 use Rattle.cpus.specs.declared.Reading.{Reading}
-use Rattle.cpus.specs.Gather.{unlessSeen, listedFault, firstIndex, firstRecord, numbersOver, numbersFault, numbersAfter}
+use Rattle.cpus.specs.Gather.{unlessSeen, listedFault, firstIndex, firstRecord, numbersOver}
 
 -- a reading keeps its number where that is refused
 unless-value : (rule : ℕ) (seen : Bool) (q : Reading) → unlessSeen rule seen q .value ≡ q .value
@@ -93,13 +93,3 @@ module _ (r : ℕ → Reading) (rule : ℕ) (records before : List ℕ) where
 
   pub pass-end : (k : ℕ) {values : List ℕ} → Pass k values → k ≡ length records → Told clear values
   pass-end k h e = told-index (at-end (listedFault r rule records) k (length records) e (h .none)) (sym e) h
-
--- a buffer with room for all records
-module _ (r : ℕ → Reading) (rule : ℕ) (records : List ℕ) where
-  pub room-fault : (room : ℕ) → length records ≤ room → numbersFault r rule records room ≡ firstRecord r rule records
-  unfolding numbersFault
-  room-fault room le = rw (le-ltb room (length records) le)
-
-  pub room-after : (before : List ℕ) → length records ≤ length before → numbersAfter r rule records before ≡ numbersOver r rule records before
-  unfolding numbersAfter
-  room-after before le = rw (le-ltb (length before) (length records) le)

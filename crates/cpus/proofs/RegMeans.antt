@@ -9,6 +9,7 @@ use lib.Dec.{eqb}
 use lib.ListN.{length}
 use borrow.Author.Tests.{eqb-true, eqb-false}
 use Rattle.laws.proofs.SearchLaws.{true-false}
+use Rattle.laws.proofs.DecideLaws.{Decides, decides-not}
 use Rattle.affinity.specs.Level.{Affine, isAffine}
 use Rattle.affinity.proofs.AffineLaws.{test-affine}
 use Rattle.tables.specs.Board.{Board, Typed, valueOffset, valueLength}
@@ -20,12 +21,14 @@ use Rattle.cpus.specs.declared.Cell.{Cell}
 use Rattle.cpus.specs.declared.Cell.the-variants.{Is, Not}
 use Rattle.cpus.specs.declared.Mpidr.{Mpidr}
 use Rattle.cpus.specs.declared.Mpidr.the-variants as read
-use Rattle.keys.specs.Key.{regKey, phandleKey}
-use Rattle.cpus.specs.Words.{addressCellsKey}
+use Rattle.keys.specs.Key.{regKey, phandleKey, deviceTypeKey}
+use Rattle.cpus.specs.Words.{cpuString, addressCellsKey}
 use Rattle.cpus.specs.Node.{CellsAllowed, AddressCells, Reg, mpidr, Phandle}
-use Rattle.cpus.specs.Cell.{valueSized, cellsAt, mpidrOf}
-use Rattle.cpus.specs.Check.{cellsFor, addressCells, phandleIn, phandleOf}
-use Rattle.cpus.proofs.ValueMeans.{sized-test, value-of, value-unique, value-sized, CellSays, cell-says}
+use Rattle.cpus.specs.Cell.{valueSized, cellsAt, phandleIn, cellOf, hasValue, mpidrOf}
+use Rattle.cpus.specs.Check.{cellsFor, addressCells, mpidrReadings, phandleReadings}
+use Rattle.cpus.specs.Gather.{reading, mpidrReading, phandleReading, readingFrom, readingOf}
+use Rattle.cpus.specs.declared.Reading.{Reading}
+use Rattle.cpus.proofs.ValueMeans.{sized-test, value-of, value-unique, value-sized, has-value-test, CellSays, cell-says}
 use Rattle.cpus.proofs.PairMeans.{pair-bytes, pair-back, affine-parts, parts-affine, mpidr-apart}
 
 -- one address cell, or on width 64 two
@@ -218,33 +221,42 @@ module _ {b : Board} (typed : Typed b) (well : WellFormed b) where
             (λ u l r. let g = reg-bounds r in true-false (parts-affine u l (g .0) (g .1)) (rw (reg-read well a p r) at f))
         at p false e s f = RegSays.none (λ u l r. true-false (reg-sized well a p r) e)
 
-    pub mpidr-test : {m : ℕ} → mpidrOf (b .props) (b .pool) n i ≡ read.Is m → (u : ℕ) × (l : ℕ) × Reg b i u l × (m ≡ mpidr u l)
-    mpidr-test {m} = go reg-says
-      where
-        go : {c : Mpidr} → RegSays b i c → c ≡ read.Is m → (u : ℕ) × (l : ℕ) × Reg b i u l × (m ≡ mpidr u l)
-        go (RegSays.reg {u = u} {l = l} {m = x} r q) e = let same : x ≡ m = cc in (u, l, r, sym same ∙ q)
-        go (RegSays.none _) e = let z : _≡_ {A = ℕ} 0 1 = cc in absurd (omega arith)
+-- what a cpu record's MPIDR is read as: its `reg`, or the rule that is broken
+pub data MpidrSays (b : Board) (i : ℕ) : Reading → Type 0 where
+  untyped : (HasValue b i deviceTypeKey cpuString → ⊥) → MpidrSays b i (reading 11 0)
+  unread : HasValue b i deviceTypeKey cpuString → ((u l : ℕ) → Reg b i u l → ⊥) → MpidrSays b i (reading 12 0)
+  reg : {u l m : ℕ} → HasValue b i deviceTypeKey cpuString → Reg b i u l → m ≡ mpidr u l → MpidrSays b i (reading 0 m)
 
-  pub test-mpidr : {i u l : ℕ} → Reg b i u l → mpidrOf (b .props) (b .pool) (addressCells b) i ≡ read.Is (mpidr u l)
-  test-mpidr {i} {u} {l} r =
-      let a = reg-place well r .0 .1 in
-      rw (test-cells a) (go (reg-says a i))
-    where
-      go : {c : Mpidr} → RegSays b i c → c ≡ read.Is (mpidr u l)
-      go (RegSays.reg s q) = let t = reg-unique well s r in ap read.Is (q ∙ rw (t .0, t .1))
-      go (RegSays.none f) = absurd (f u l r)
-
--- what a `phandle` is read as: a cell that is neither 0 nor all ones, or nothing
-pub data PhandleSays (b : Board) (i : ℕ) : Cell → Type 0 where
-  phandle : {h : ℕ} → Phandle b i h → PhandleSays b i (Is h)
-  none : ((h : ℕ) → Phandle b i h → ⊥) → PhandleSays b i Not
+-- and its `phandle`
+pub data PhandleSays (b : Board) (i : ℕ) : Reading → Type 0 where
+  phandle : {h : ℕ} → Phandle b i h → PhandleSays b i (reading 0 h)
+  none : ((h : ℕ) → Phandle b i h → ⊥) → PhandleSays b i (reading 17 0)
 
 pub phandle-unique : {b : Board} (well : WellFormed b) {i g h : ℕ} → Phandle b i g → Phandle b i h → g ≡ h
 phandle-unique well {i} {g} {h} p q = cell-bytes-apart g h (p .word) (q .word) (value-unique well (p .value) (q .value))
 
 module _ {b : Board} (typed : Typed b) (well : WellFormed b) (i : ℕ) where
-  pub phandle-says : PhandleSays b i (phandleOf (b .props) (b .pool) i)
-  unfolding phandleOf
+  module _ (a : AddressCells b (addressCells b)) where
+    pub mpidr-says : MpidrSays b i (mpidrReadings b i)
+    unfolding readingFrom readingOf hasValue mpidrOf
+    mpidr-says = go _ (has-value-test well cpuString) (reg-says typed well a i)
+      where
+        go : (s : Bool) → Decides s (HasValue b i deviceTypeKey cpuString) → {c : Mpidr} → RegSays b i c → MpidrSays b i (cond s (mpidrReading c) (reading 11 0))
+        go true kind (RegSays.reg r q) = MpidrSays.reg (kind .0 refl) r q
+        go true kind (RegSays.none f) = MpidrSays.unread (kind .0 refl) f
+        go false kind c = MpidrSays.untyped (decides-not kind .0 refl)
+
+    -- a sound reading is the `reg`
+    pub mpidr-read : mpidrReadings b i .number ≡ 0 → (u : ℕ) × (l : ℕ) × Reg b i u l × (mpidrReadings b i .value ≡ mpidr u l)
+    mpidr-read = go mpidr-says
+      where
+        go : {q : Reading} → MpidrSays b i q → q .number ≡ 0 → (u : ℕ) × (l : ℕ) × Reg b i u l × (q .value ≡ mpidr u l)
+        go (MpidrSays.untyped _) z = absurd (omega arith)
+        go (MpidrSays.unread _ _) z = absurd (omega arith)
+        go (MpidrSays.reg {u = u} {l = l} _ r e) z = (u, l, r, e)
+
+  pub phandle-says : PhandleSays b i (phandleReadings b i)
+  unfolding readingFrom readingOf cellOf
   phandle-says = go (cell-says typed well i phandleKey)
     where
       same : {w h : ℕ} → HasValue b i phandleKey (cellBytes w) → w < 2 ^ 32 → Phandle b i h → w ≡ h
@@ -258,22 +270,18 @@ module _ {b : Board} (typed : Typed b) (well : WellFormed b) (i : ℕ) where
           eqb w 0 ≡ t →
           (s : Bool) →
           eqb w 0xFFFFFFFF ≡ s →
-          PhandleSays b i (cond t Not (cond s Not (Is w)))
+          PhandleSays b i (phandleReading (cond t Not (cond s Not (Is w))))
       pick {w} v lt true e s f = PhandleSays.none (λ h p. p .not-zero (sym (same v lt p) ∙ eqb-true w 0 e))
       pick {w} v lt false e true f = PhandleSays.none (λ h p. p .not-ones (sym (same v lt p) ∙ eqb-true w 0xFFFFFFFF f))
       pick {w} v lt false e false f = PhandleSays.phandle (record { value = v; word = lt; not-zero = eqb-false w 0 e; not-ones = eqb-false w 0xFFFFFFFF f })
 
-      go : {c : Cell} → CellSays b i phandleKey c → PhandleSays b i (phandleIn c)
+      go : {c : Cell} → CellSays b i phandleKey c → PhandleSays b i (phandleReading (phandleIn c))
       go (CellSays.cell {w = w} v lt) = pick v lt (eqb w 0) refl (eqb w 0xFFFFFFFF) refl
       go (CellSays.none n) = PhandleSays.none (λ h p. n (cellBytes h) (p .value) refl)
 
-  pub phandle-test : {h : ℕ} → (phandleOf (b .props) (b .pool) i ≡ Is h → Phandle b i h) × (Phandle b i h → phandleOf (b .props) (b .pool) i ≡ Is h)
-  phandle-test {h} = (to phandle-says, from phandle-says)
+  pub phandle-read : phandleReadings b i .number ≡ 0 → Phandle b i (phandleReadings b i .value)
+  phandle-read = go phandle-says
     where
-      to : {c : Cell} → PhandleSays b i c → c ≡ Is h → Phandle b i h
-      to (PhandleSays.phandle {h = x} p) e = let same : x ≡ h = cc in rw same at p
-      to (PhandleSays.none _) e = let z : _≡_ {A = ℕ} 0 1 = cc in absurd (omega arith)
-
-      from : {c : Cell} → PhandleSays b i c → Phandle b i h → c ≡ Is h
-      from (PhandleSays.phandle p) q = ap Is (phandle-unique well p q)
-      from (PhandleSays.none f) q = absurd (f h q)
+      go : {q : Reading} → PhandleSays b i q → q .number ≡ 0 → Phandle b i (q .value)
+      go (PhandleSays.phandle p) z = p
+      go (PhandleSays.none f) z = absurd (omega arith)

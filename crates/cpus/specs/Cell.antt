@@ -56,3 +56,8 @@ mpidrIn props pool cells Missing = mpidr.Not
 -- record i's `reg` as an MPIDR, if it has four bytes for each address cell and affinity bits alone
 unfoldable pub mpidrOf : List ℕ → List ℕ → ℕ → ℕ → Mpidr
 mpidrOf props pool cells i = mpidrIn props pool cells (lookup props pool i regKey)
+
+-- a phandle: a cell that is neither 0 nor 0xFFFFFFFF
+abbrev pub phandleIn : Cell → Cell
+phandleIn (Is h) = cond (eqb h 0) Not (cond (eqb h 0xFFFFFFFF) Not (Is h))
+phandleIn Not = Not

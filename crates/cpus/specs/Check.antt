@@ -4,17 +4,17 @@ use mathlib.Core.List.{List, map}
 use Prim.Native.Nat.{ℕ}
 use lib.Dec.{eqb, ltb}
 use Rattle.laws.specs.declared.Fault.{Fault}
-use Rattle.laws.specs.Fault.{told, orElse, firstFault}
-use Rattle.laws.specs.Search.{anyBelow, countBelow, listBelow}
+use Rattle.laws.specs.Fault.{told, orElse}
+use Rattle.laws.specs.Search.{countBelow, listBelow}
 use Rattle.tables.specs.Board.{Board, nodeCount, parentWord, nameOffset, nameLength, rangeIs}
-use Rattle.keys.specs.Key.{phandleKey, deviceTypeKey}
 use Rattle.cpus.specs.declared.Cell.{Cell}
 use Rattle.cpus.specs.declared.Cell.the-variants.{Is, Not}
-use Rattle.cpus.specs.declared.Mpidr.{Mpidr}
-use Rattle.cpus.specs.declared.Mpidr.the-variants as mpidr
-use Rattle.cpus.specs.Words.{cpusWord, cpuWord, cpuUnit, cpuString, addressCellsKey, sizeCellsKey}
-use Rattle.cpus.specs.Cell.{cellOf, hasValue, mpidrOf}
+use Rattle.cpus.specs.declared.Wanted.the-variants.{Mpidrs, Phandles}
+use Rattle.cpus.specs.declared.Reading.{Reading}
+use Rattle.cpus.specs.Words.{cpusWord, cpuWord, cpuUnit, addressCellsKey, sizeCellsKey}
+use Rattle.cpus.specs.Cell.{cellOf}
 use Rattle.cpus.specs.Rules.{maxCpus}
+use Rattle.cpus.specs.Gather.{readingOf, firstRecord}
 
 -- whether i is a child of p
 unfoldable pub isChild : List ℕ → ℕ → ℕ → Bool
@@ -57,81 +57,36 @@ cpuCount b = countBelow (isCpu (b .nodes) (b .pool)) (nodeCount (b .nodes))
 abbrev pub countFault : ℕ → ℕ
 countFault n = cond (eqb n 0) 10 (cond (ltb maxCpus n) 10 0)
 
--- whether two MPIDRs are there and equal
-abbrev pub sameMpidr : Mpidr → Mpidr → Bool
-sameMpidr (mpidr.Is m) (mpidr.Is n) = eqb m n
-sameMpidr (mpidr.Is m) mpidr.Not = false
-sameMpidr mpidr.Not n = false
-
--- an MPIDR as a number, 0 where it is not there
-abbrev pub mpidrNumber : Mpidr → ℕ
-mpidrNumber (mpidr.Is m) = m
-mpidrNumber mpidr.Not = 0
-
--- the MPIDR of cpu record i
-abbrev pub mpidrAt : Board → ℕ → ℕ
-mpidrAt b i = mpidrNumber (mpidrOf (b .props) (b .pool) (addressCells b) i)
-
--- 12 where an MPIDR is not there, 13 where an earlier cpu record has it
-abbrev pub mpidrFault : Bool → Mpidr → ℕ
-mpidrFault seen (mpidr.Is m) = cond seen 13 0
-mpidrFault seen mpidr.Not = 12
-
--- the smallest of 11, 12 and 13 that record i breaks, or 0
-unfoldable pub cpuFault : Board → ℕ → ℕ
-cpuFault b i =
-    cond (isCpu (b .nodes) (b .pool) i)
-    (cond (hasValue (b .props) (b .pool) i deviceTypeKey cpuString)
-    (mpidrFault
-    (anyBelow
-    (λ j. cond (isCpu (b .nodes) (b .pool) j) (sameMpidr (mpidrOf (b .props) (b .pool) (addressCells b) j) (mpidrOf (b .props) (b .pool) (addressCells b) i)) false)
-    i)
-    (mpidrOf (b .props) (b .pool) (addressCells b) i))
-    11)
-    0
-
--- the first of rules 9 to 13 that is broken
-unfoldable pub cpusFault : Board → Fault
-cpusFault b =
-    orElse (told (rootFault b) 0) (orElse (told (countFault (cpuCount b)) 0) (firstFault (cpuFault b) (nodeCount (b .nodes))))
-
 -- the cpu records, rising
 abbrev pub cpuList : Board → List ℕ
 cpuList b = listBelow (isCpu (b .nodes) (b .pool)) (nodeCount (b .nodes))
 
--- a phandle: a cell that is neither 0 nor 0xFFFFFFFF
-abbrev pub phandleIn : Cell → Cell
-phandleIn (Is h) = cond (eqb h 0) Not (cond (eqb h 0xFFFFFFFF) Not (Is h))
-phandleIn Not = Not
+-- the readings of the records, looked up in the property table: their MPIDRs, and their phandles
+abbrev pub mpidrReadings : Board → ℕ → Reading
+mpidrReadings b = readingOf (Mpidrs (addressCells b)) (b .props) (b .pool)
 
-unfoldable pub phandleOf : List ℕ → List ℕ → ℕ → Cell
-phandleOf props pool i = phandleIn (cellOf props pool i phandleKey)
+abbrev pub phandleReadings : Board → ℕ → Reading
+phandleReadings b = readingOf Phandles (b .props) (b .pool)
 
-abbrev pub sameCell : Cell → Cell → Bool
-sameCell (Is m) (Is n) = eqb m n
-sameCell (Is m) Not = false
-sameCell Not n = false
+abbrev pub mpidrAt : Board → ℕ → ℕ
+mpidrAt b i = mpidrReadings b i .value
 
-abbrev pub cellNumber : Cell → ℕ
-cellNumber (Is h) = h
-cellNumber Not = 0
+-- the MPIDRs of the cpu records
+abbrev pub mpidrList : Board → List ℕ
+mpidrList b = map (mpidrAt b) (cpuList b)
 
-abbrev pub cellFault : Bool → Cell → ℕ
-cellFault seen (Is h) = cond seen 17 0
-cellFault seen Not = 17
+-- the first of rules 11 to 13 that a cpu record breaks
+abbrev pub cpuFault : Board → Fault
+cpuFault b = firstRecord (mpidrReadings b) 13 (cpuList b)
 
--- 17 where cpu record i breaks rule 17, or 0
-unfoldable pub phandleFault : List ℕ → List ℕ → List ℕ → ℕ → ℕ
-phandleFault nodes props pool i =
-    cond (isCpu nodes pool i)
-    (cellFault (anyBelow (λ j. cond (isCpu nodes pool j) (sameCell (phandleOf props pool j) (phandleOf props pool i)) false) i) (phandleOf props pool i))
-    0
+-- the first of rules 9 to 13 that is broken
+unfoldable pub cpusFault : Board → Fault
+cpusFault b = orElse (told (rootFault b) 0) (orElse (told (countFault (cpuCount b)) 0) (cpuFault b))
 
--- the first cpu record that breaks rule 17; 10 where there are too many cpu records
-unfoldable pub phandlesFault : List ℕ → List ℕ → List ℕ → Fault
-phandlesFault nodes props pool =
-    cond (ltb maxCpus (countBelow (isCpu nodes pool) (nodeCount nodes))) (told 10 0) (firstFault (phandleFault nodes props pool) (nodeCount nodes))
+-- the first cpu record that breaks rule 17
+abbrev pub phandlesFault : Board → Fault
+phandlesFault b = firstRecord (phandleReadings b) 17 (cpuList b)
 
 -- the phandles of the cpu records
-abbrev pub phandleList : List ℕ → List ℕ → List ℕ → List ℕ
-phandleList nodes props pool = map (λ i. cellNumber (phandleOf props pool i)) (listBelow (isCpu nodes pool) (nodeCount nodes))
+abbrev pub phandleList : Board → List ℕ
+phandleList b = map (λ i. phandleReadings b i .value) (cpuList b)

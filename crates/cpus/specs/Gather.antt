@@ -2,10 +2,10 @@
 use mathlib.Core.Bool.{Bool, cond}
 use mathlib.Core.List.{List, map}
 use Prim.Native.Nat.{ℕ}
-use lib.Dec.{eqb, ltb}
+use lib.Dec.{eqb}
 use lib.ListN.{length, getD, take}
 use Rattle.laws.specs.declared.Fault.{Fault}
-use Rattle.laws.specs.Fault.{told, firstFault}
+use Rattle.laws.specs.Fault.{firstFault}
 use Rattle.laws.specs.Search.{isAmong}
 use Rattle.laws.specs.Listed.{over, toldOf, passedOf}
 use Rattle.tables.specs.declared.Lookup.{Lookup}
@@ -22,8 +22,7 @@ use Rattle.cpus.specs.declared.Wanted.{Wanted}
 use Rattle.cpus.specs.declared.Wanted.the-variants as wanted
 use Rattle.cpus.specs.declared.Reading.{Reading}
 use Rattle.cpus.specs.Words.{cpuString}
-use Rattle.cpus.specs.Cell.{cellIn, valueIn, mpidrIn}
-use Rattle.cpus.specs.Check.{phandleIn}
+use Rattle.cpus.specs.Cell.{cellIn, valueIn, mpidrIn, phandleIn}
 
 abbrev pub reading : ℕ → ℕ → Reading
 reading number value = record { number = number; value = value }
@@ -76,11 +75,3 @@ module _ (r : ℕ → Reading) (rule : ℕ) (records : List ℕ) where
   -- a buffer after the gathering: the numbers of the records passed, over what it held
   unfoldable pub numbersOver : List ℕ → List ℕ
   numbersOver before = over (map (λ i. r i .value) (take (passedOf records firstIndex) records)) before
-
-  -- the fault where the buffer has so much room: 10 where the records are more
-  unfoldable pub numbersFault : ℕ → Fault
-  numbersFault room = cond (ltb room (length records)) (told 10 0) firstRecord
-
-  -- the buffer afterwards: as it was where the records are more
-  unfoldable pub numbersAfter : List ℕ → List ℕ
-  numbersAfter before = cond (ltb (length before) (length records)) before (numbersOver before)

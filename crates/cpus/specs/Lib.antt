@@ -3,5 +3,5 @@ pub mod Words
 pub mod Node
 pub mod Rules
 pub mod Cell
-pub mod Check
 pub mod Gather
+pub mod Check

@@ -50,7 +50,7 @@ fn next_reading(
 }
 
 // The numbers of cpu records, up to the first that breaks a rule.
-pub fn gather(
+pub fn read_numbers(
     wanted: Wanted,
     props: &[u32],
     pool: &[u8],

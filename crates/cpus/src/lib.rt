@@ -4,17 +4,15 @@ mod limits;
 mod node;
 mod read;
 mod root;
-mod scan;
 mod value;
 
+pub use gather::read_numbers;
 pub use limits::MAX_CPUS;
 pub use node::is_child;
 pub use node::is_cpu;
 pub use root::count_fault;
 pub use root::list_cpus;
 pub use root::read_cells;
-pub use scan::read_mpidrs;
-pub use scan::read_phandles;
 pub use value::cell_in;
 
 // A property's value of four bytes, or not.

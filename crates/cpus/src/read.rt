@@ -12,8 +12,7 @@ use laws::BAD_DEVICE_TYPE;
 use laws::BAD_PHANDLE;
 use laws::BAD_REG;
 ghost use mathlib.Core.Path.{_≡_};
-ghost use Rattle.cpus.specs.Cell.{isCpuString};
-ghost use Rattle.cpus.specs.Check.{phandleIn};
+ghost use Rattle.cpus.specs.Cell.{isCpuString, phandleIn};
 ghost use Rattle.cpus.specs.Gather.{mpidrReading, phandleReading, readingAt};
 
 // `cpu` and one zero byte as a cell.

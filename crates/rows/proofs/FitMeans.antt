@@ -8,20 +8,20 @@ use Rattle.tables.specs.Rules.{WellFormed}
 use Rattle.tables.proofs.WellFormedLaws.{wf-nodes}
 use Rattle.cpus.specs.Node.{Reg, mpidr}
 use Rattle.cpus.specs.Rules.{SoundCpus}
-use Rattle.cpus.specs.Check.{mpidrAt}
+use Rattle.cpus.specs.Check.{mpidrAt, mpidrList}
 use Rattle.cpus.proofs.PairMeans.{mpidr-parts}
 use Rattle.cpus.proofs.RegMeans.{reg-bounds}
 use Rattle.cpus.proofs.CpuGives.{cpu-reg}
 use Rattle.topology.specs.Map.{Map, Leaf, Names}
 use Rattle.topology.specs.Rules.{MapRule}
-use Rattle.topology.specs.Scan.{leafList}
+use Rattle.topology.specs.Scan.{treeOf, leavesOf, leafList}
 use Rattle.topology.proofs.CheckLeaf.{leaf-in-map, in-map-inside}
 use Rattle.rows.specs.Row.{rowOf, rowWords}
-use Rattle.rows.specs.Write.{rowsBelow}
+use Rattle.rows.specs.Write.{rowsBelow, sourceOf}
 use Rattle.rows.specs.Fits.{rowAt, RowFits, Fits}
 use Rattle.rows.proofs.WordMeans.{socket-word, cluster-word, core-word, thread-word}
 use Rattle.rows.proofs.RowLaws.{row-path, rows-length, row-at}
-use Rattle.rows.proofs.SourceMeans.{theTree, theMpidrs, theSource, leafCount, leafAt, cpuIn, leafRow, LeafFacts, mpidrs-of, row-number}
+use Rattle.rows.proofs.SourceMeans.{leafCount, leafAt, cpuIn, leafRow, LeafFacts, mpidrs-of, row-number}
 
 module _ {b : Board} (typed : Typed b) (well : WellFormed b) (sound : SoundCpus b) {m : ℕ} (the-map : Map b m) (kept : (n p : ℕ) → MapRule b n p → ⊥) where
   -- a record's number fits a word
@@ -41,7 +41,7 @@ module _ {b : Board} (typed : Typed b) (well : WellFormed b) (sound : SoundCpus 
         cluster = λ d lt. rw (row-path (leafRow b leaf cpu) d lt) (cluster-word well sound l d lt);
         core = core-word well sound the-map kept l;
         thread = thread-word well sound l;
-        slot = record { list = theMpidrs b; mpidrs = mpidrs-of typed well sound; slot = ap (slotIn (theMpidrs b)) whole };
+        slot = record { list = mpidrList b; mpidrs = mpidrs-of typed well sound; slot = ap (slotIn (mpidrList b)) whole };
       }
     where
       cpu-word : cpu % 2 ^ 32 ≡ cpu
@@ -57,10 +57,10 @@ module _ {b : Board} (typed : Typed b) (well : WellFormed b) (sound : SoundCpus 
       whole : mpidrAt b cpu ≡ mpidr (mpidrAt b cpu / 2 ^ 32) (mpidrAt b cpu % 2 ^ 32)
       whole = omega arith
 
-  pub rows-fit : LeafFacts b → Fits b (rowsBelow (theSource b) (leafCount b))
-  rows-fit leaves = record { leaves = leafList (theTree b); listing = leaves .listing; size = rows-length (theSource b) (leafCount b); each = each }
+  pub rows-fit : LeafFacts b → Fits b (rowsBelow (sourceOf b) (leafCount b))
+  rows-fit leaves = record { leaves = leavesOf b; listing = leaves .listing; size = rows-length (sourceOf b) (leafCount b); each = each }
     where
-      each : (k : ℕ) → k < leafCount b → RowFits b (leafAt b k) (rowAt (rowsBelow (theSource b) (leafCount b)) k)
+      each : (k : ℕ) → k < leafCount b → RowFits b (leafAt b k) (rowAt (rowsBelow (sourceOf b) (leafCount b)) k)
       each k lt =
           let leaf = leaves .listing .only k lt in
-          rw (row-at (theSource b) (leafCount b) k lt, row-number typed well sound leaves k lt) (row-fits (leafAt b k) (cpuIn b (leafAt b k)) leaf (leaves .names (leafAt b k) leaf))
+          rw (row-at (sourceOf b) (leafCount b) k lt, row-number typed well sound leaves k lt) (row-fits (leafAt b k) (cpuIn b (leafAt b k)) leaf (leaves .names (leafAt b k) leaf))

@@ -12,49 +12,49 @@ use Rattle.affinity.proofs.SlotClaims.{slots-distinct, slot-bound}
 use Rattle.tables.specs.Board.{Board, Typed}
 use Rattle.tables.specs.Rules.{WellFormed}
 use Rattle.cpus.specs.Rules.{SoundCpus}
-use Rattle.cpus.specs.Check.{cpuList, mpidrAt}
+use Rattle.cpus.specs.Check.{cpuList, mpidrAt, mpidrList}
 use Rattle.cpus.proofs.CpuMeans.{cpu-listing}
 use Rattle.cpus.proofs.RegMeans.{reg-affine}
 use Rattle.cpus.proofs.CpuGives.{cpu-reg, mpidr-distinct}
 use Rattle.topology.specs.Map.{Leaf, Names}
-use Rattle.topology.specs.Scan.{cpuOf}
+use Rattle.topology.specs.Scan.{cpuOf, treeOf, leavesOf}
 use Rattle.rows.specs.Row.{rowOf, rowWords}
-use Rattle.rows.specs.Write.{rowsBelow}
+use Rattle.rows.specs.Write.{rowsBelow, sourceOf}
 use Rattle.rows.specs.Fits.{rowSize}
 use Rattle.rows.proofs.RowLaws.{row-at}
-use Rattle.rows.proofs.SourceMeans.{theTree, theMpidrs, theSource, leafCount, leafAt, cpuIn, leafRow, LeafFacts, row-number}
+use Rattle.rows.proofs.SourceMeans.{leafCount, leafAt, cpuIn, leafRow, LeafFacts, row-number}
 
 -- word 11 of a row
-row-slot : (b : Board) (leaf cpu : ℕ) → getD (rowWords (leafRow b leaf cpu)) 11 0 ≡ slotIn (theMpidrs b) (mpidrAt b cpu)
+row-slot : (b : Board) (leaf cpu : ℕ) → getD (rowWords (leafRow b leaf cpu)) 11 0 ≡ slotIn (mpidrList b) (mpidrAt b cpu)
 unfolding rowWords rowOf
 row-slot b leaf cpu = refl
 
 module _ {b : Board} (typed : Typed b) (well : WellFormed b) (sound : SoundCpus b) (leaves : LeafFacts b) where
   abbrev written : List ℕ
-  written = rowsBelow (theSource b) (leafCount b)
+  written = rowsBelow (sourceOf b) (leafCount b)
 
   abbrev slotWord : ℕ → ℕ
   slotWord k = getD written (rowSize * k + 11) 0
 
   -- the slot of row k is that of the MPIDR of its cpu record
-  slot-word : (k : ℕ) → k < leafCount b → slotWord k ≡ slotIn (theMpidrs b) (mpidrAt b (cpuIn b (leafAt b k)))
+  slot-word : (k : ℕ) → k < leafCount b → slotWord k ≡ slotIn (mpidrList b) (mpidrAt b (cpuIn b (leafAt b k)))
   slot-word k lt =
       sym (block-at rowSize written k 11 (omega arith))
-      ∙ ap (λ (row : List ℕ). getD row 11 0) (row-at (theSource b) (leafCount b) k lt ∙ ap rowWords (row-number typed well sound leaves k lt))
+      ∙ ap (λ (row : List ℕ). getD row 11 0) (row-at (sourceOf b) (leafCount b) k lt ∙ ap rowWords (row-number typed well sound leaves k lt))
       ∙ row-slot b (leafAt b k) (cpuIn b (leafAt b k))
 
   -- the MPIDRs have affinity bits alone
-  affine : (i : ℕ) → i < length (theMpidrs b) → Affine (getD (theMpidrs b) i 0)
+  affine : (i : ℕ) → i < length (mpidrList b) → Affine (getD (mpidrList b) i 0)
   affine i lt =
       let in-cpus = rw (length-map (cpuList b) (mpidrAt b)) at lt in
       let t = cpu-reg typed well sound (cpu-listing well .only i in-cpus) in
       rw (getD-map-lt (mpidrAt b) (cpuList b) i in-cpus, t .3) (reg-affine (t .2))
 
   -- the MPIDR of row k is a listed one
-  listed : (k : ℕ) → k < leafCount b → (i : ℕ) × (i < length (theMpidrs b)) × (getD (theMpidrs b) i 0 ≡ mpidrAt b (cpuIn b (leafAt b k)))
+  listed : (k : ℕ) → k < leafCount b → (i : ℕ) × (i < length (mpidrList b)) × (getD (mpidrList b) i 0 ≡ mpidrAt b (cpuIn b (leafAt b k)))
   listed k lt =
       let in-cpus = leaves .index (leafAt b k) (leaves .listing .only k lt) in
-      (cpuOf (theTree b) (leafAt b k), rw (length-map (cpuList b) (mpidrAt b)) in-cpus, getD-map-lt (mpidrAt b) (cpuList b) (cpuOf (theTree b) (leafAt b k)) in-cpus)
+      (cpuOf (treeOf b) (leafAt b k), rw (length-map (cpuList b) (mpidrAt b)) in-cpus, getD-map-lt (mpidrAt b) (cpuList b) (cpuOf (treeOf b) (leafAt b k)) in-cpus)
 
   pub slots-distinct-rows : (j k : ℕ) → j < leafCount b → k < leafCount b → slotWord j ≡ slotWord k → j ≡ k
   slots-distinct-rows j k lj lk e =
@@ -78,11 +78,11 @@ module _ {b : Board} (typed : Typed b) (well : WellFormed b) (sound : SoundCpus 
           let p = listed j lj in
           let q = listed k lk in
           sym (p .2)
-          ∙ slots-distinct (theMpidrs b) affine (p .0) (q .0) (p .1) (q .1) (rw (p .2, q .2) (sym (slot-word j lj) ∙ e ∙ slot-word k lk))
+          ∙ slots-distinct (mpidrList b) affine (p .0) (q .0) (p .1) (q .1) (rw (p .2, q .2) (sym (slot-word j lj) ∙ e ∙ slot-word k lk))
           ∙ q .2
 
       same : cpuIn b (leafAt b j) ≡ cpuIn b (leafAt b k)
       same = mpidr-distinct typed well sound (names-j .is-cpu) (names-k .is-cpu) same-mpidr
 
-  pub slots-bounded : (k : ℕ) → k < leafCount b → slotWord k < 2 ^ (hashOf (theMpidrs b) .bits)
-  slots-bounded k lt = rw (slot-word k lt) (slot-bound (theMpidrs b) (mpidrAt b (cpuIn b (leafAt b k))))
+  pub slots-bounded : (k : ℕ) → k < leafCount b → slotWord k < 2 ^ (hashOf (mpidrList b) .bits)
+  slots-bounded k lt = rw (slot-word k lt) (slot-bound (mpidrList b) (mpidrAt b (cpuIn b (leafAt b k))))

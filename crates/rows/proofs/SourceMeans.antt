@@ -5,65 +5,43 @@ use Prim.Native.Nat.{ℕ, _≤_, _<_}
 use lib.ListN.{length, getD, length-map}
 use Rattle.laws.specs.Listing.{Listing}
 use Rattle.laws.proofs.IndexLaws.{getD-map-lt}
-use Rattle.affinity.specs.Mask.{maskOf}
 use Rattle.affinity.specs.Hash.{slotIn}
 use Rattle.tables.specs.Board.{Board, Typed}
 use Rattle.tables.specs.Rules.{WellFormed}
 use Rattle.cpus.specs.Rules.{CpuRule, SoundCpus}
-use Rattle.cpus.specs.Check.{cpuCount, cpuList, mpidrAt}
+use Rattle.cpus.specs.Check.{cpuCount, cpuList, mpidrAt, mpidrList}
 use Rattle.cpus.proofs.CpuMeans.{cpu-listing, cpu-count}
 use Rattle.cpus.proofs.CpuGives.{cpu-reg}
 use Rattle.topology.specs.Map.{Map, Leaf, Names}
 use Rattle.topology.specs.Find.{mapOf}
 use Rattle.topology.specs.Rules.{MapRule}
-use Rattle.topology.specs.Scan.{Tree, cpuOf, leafList}
+use Rattle.topology.specs.Scan.{cpuOf, treeOf, leavesOf, leafList}
 use Rattle.topology.proofs.MapMeans.{map-of, map-found}
 use Rattle.topology.proofs.PhandleMeans.{cpuAt}
-use Rattle.topology.proofs.CheckLeaf.{treeAt}
 use Rattle.topology.proofs.TreeGives.{leaf-listing, leaf-names, leaf-cpu, leaves-apart, same-count}
 use Rattle.rows.specs.declared.Row.{Row}
 use Rattle.rows.specs.Row.{rowOf}
-use Rattle.rows.specs.Write.{Source, rowNumber}
+use Rattle.rows.specs.Write.{rowNumber, sourceOf}
 use Rattle.rows.specs.Fits.{Mpidrs}
-
--- the tables with the map's record and the cpu records' phandles
-abbrev pub theTree : Board → Tree
-theTree b = treeAt b (mapOf (b .nodes) (b .pool))
-
--- the MPIDRs of the cpu records
-abbrev pub theMpidrs : Board → List ℕ
-theMpidrs b = map (mpidrAt b) (cpuList b)
-
-abbrev pub theSource : Board → Source
-theSource b =
-    record {
-      nodes = b .nodes;
-      pool = b .pool;
-      cpus = cpuList b;
-      mpidrs = theMpidrs b;
-      leaves = leafList (theTree b);
-      named = map (cpuOf (theTree b)) (leafList (theTree b));
-      mask = maskOf (theMpidrs b);
-    }
 
 -- the number of rows; the leaf and the cpu record of row k
 abbrev pub leafCount : Board → ℕ
-leafCount b = length (leafList (theTree b))
+leafCount b = length (leavesOf b)
 
 abbrev pub leafAt : Board → ℕ → ℕ
-leafAt b k = getD (leafList (theTree b)) k 0
+leafAt b k = getD (leavesOf b) k 0
 
 abbrev pub cpuIn : Board → ℕ → ℕ
-cpuIn b leaf = cpuAt b (cpuOf (theTree b) leaf)
+cpuIn b leaf = cpuAt b (cpuOf (treeOf b) leaf)
 
 -- the row of a leaf that names a cpu record
 abbrev pub leafRow : Board → ℕ → ℕ → Row
-leafRow b leaf cpu = rowOf (b .nodes) (b .pool) leaf cpu (mpidrAt b cpu) (slotIn (theMpidrs b) (mpidrAt b cpu))
+leafRow b leaf cpu = rowOf (b .nodes) (b .pool) leaf cpu (mpidrAt b cpu) (slotIn (mpidrList b) (mpidrAt b cpu))
 
 -- the leaves listed: each names a cpu record, no two the same, and there are as many as cpu records
 pub record LeafFacts (b : Board) : Type 0 where
-  pub listing : Listing (Leaf b) (leafList (theTree b))
-  pub index : (leaf : ℕ) → Leaf b leaf → cpuOf (theTree b) leaf < length (cpuList b)
+  pub listing : Listing (Leaf b) (leavesOf b)
+  pub index : (leaf : ℕ) → Leaf b leaf → cpuOf (treeOf b) leaf < length (cpuList b)
   pub names : (leaf : ℕ) → Leaf b leaf → Names b leaf (cpuIn b leaf)
   pub apart : (i j c : ℕ) → Leaf b i → Leaf b j → Names b i c → Names b j c → i ≡ j
   pub count : leafCount b ≡ length (cpuList b)
@@ -100,7 +78,7 @@ module _
     leaf-count = leaf-facts .count ∙ sym (cpu-count b)
 
 module _ {b : Board} (typed : Typed b) (well : WellFormed b) (sound : SoundCpus b) where
-  pub mpidrs-of : Mpidrs b (theMpidrs b)
+  pub mpidrs-of : Mpidrs b (mpidrList b)
   mpidrs-of =
       record {
         cpus = cpuList b;
@@ -110,15 +88,15 @@ module _ {b : Board} (typed : Typed b) (well : WellFormed b) (sound : SoundCpus 
       }
 
   -- row k is that of leaf k and of the cpu record that it names
-  pub row-number : LeafFacts b → (k : ℕ) → k < leafCount b → rowNumber (theSource b) k ≡ leafRow b (leafAt b k) (cpuIn b (leafAt b k))
+  pub row-number : LeafFacts b → (k : ℕ) → k < leafCount b → rowNumber (sourceOf b) k ≡ leafRow b (leafAt b k) (cpuIn b (leafAt b k))
   unfolding rowNumber
   row-number leaves k lt = rw (index, number)
     where
-      in-cpus : cpuOf (theTree b) (leafAt b k) < length (cpuList b)
+      in-cpus : cpuOf (treeOf b) (leafAt b k) < length (cpuList b)
       in-cpus = leaves .index (leafAt b k) (leaves .listing .only k lt)
 
-      index : getD (map (cpuOf (theTree b)) (leafList (theTree b))) k 0 ≡ cpuOf (theTree b) (leafAt b k)
-      index = getD-map-lt (cpuOf (theTree b)) (leafList (theTree b)) k lt
+      index : getD (map (cpuOf (treeOf b)) (leavesOf b)) k 0 ≡ cpuOf (treeOf b) (leafAt b k)
+      index = getD-map-lt (cpuOf (treeOf b)) (leavesOf b) k lt
 
-      number : getD (theMpidrs b) (cpuOf (theTree b) (leafAt b k)) 0 ≡ mpidrAt b (cpuIn b (leafAt b k))
-      number = getD-map-lt (mpidrAt b) (cpuList b) (cpuOf (theTree b) (leafAt b k)) in-cpus
+      number : getD (mpidrList b) (cpuOf (treeOf b) (leafAt b k)) 0 ≡ mpidrAt b (cpuIn b (leafAt b k))
+      number = getD-map-lt (mpidrAt b) (cpuList b) (cpuOf (treeOf b) (leafAt b k)) in-cpus

@@ -1,5 +1,5 @@
 -- One turn of the loop that writes the rows. Assumes nothing.
-use mathlib.Core.Path.{_≡_, _∙_}
+use mathlib.Core.Path.{_≡_, sym, ap, _∙_}
 use mathlib.Core.List.{List, _++_}
 use Prim.Native.Nat.{ℕ, _+_, _*_, _-_}
 use native.Mathlib.Numerals.{add-one}
@@ -8,23 +8,32 @@ use lib.ListN.{length, getD, drop}
 use borrow.Rule.Slice.PartMut.{midOf, putMid}
 use Rattle.laws.proofs.PartLaws.{block-more}
 use Rattle.affinity.specs.declared.Hash.{Hash}
-use Rattle.affinity.specs.Hash.{hashOfMask}
+use Rattle.affinity.specs.Hash.{hashOfMask, slotOf, slotGuarded}
 use Rattle.affinity.proofs.SlotClaims.{slot-guarded}
 use Rattle.rows.specs.declared.Row.{Row}
 use Rattle.rows.specs.Fits.{rowSize}
-use Rattle.rows.specs.Row.{rowWords}
+use Rattle.rows.specs.Row.{rowOf, rowWords}
 use Rattle.rows.specs.Write.{Source, rowFrom, rowNumber, rowsBelow}
 use Rattle.rows.proofs.RowLaws.{rows-length}
 
+-- the slot under a hash that is that of its mask
+abbrev mpidr : Source → ℕ → ℕ
+mpidr s k = getD (s .mpidrs) (getD (s .named) k 0) 0
+
+guarded : (s : Source) (k : ℕ) → s .hash ≡ hashOfMask (s .hash .mask) → slotGuarded (s .hash) (mpidr s k) ≡ slotOf (s .hash) (mpidr s k)
+guarded s k h = ap (λ (x : Hash). slotGuarded x (mpidr s k)) h ∙ slot-guarded (s .hash .mask) (mpidr s k) ∙ ap (λ (x : Hash). slotOf x (mpidr s k)) (sym h)
+
 -- row k from the lists and the hash of a mask
 pub from-number :
-    (s : Source) (k : ℕ) {r : Row} {index : ℕ} {hash : Hash} →
-    r ≡ rowFrom (s .nodes) (s .pool) (getD (s .leaves) k 0) (s .cpus) (s .mpidrs) index hash →
+    (s : Source) (k : ℕ) {r : Row} {index : ℕ} →
+    r ≡ rowFrom (s .nodes) (s .pool) (getD (s .leaves) k 0) (s .cpus) (s .mpidrs) index (s .hash) →
     index ≡ getD (s .named) k 0 →
-    hash ≡ hashOfMask (s .mask) →
+    s .hash ≡ hashOfMask (s .hash .mask) →
     r ≡ rowNumber s k
 unfolding rowNumber
-from-number s k e i h = e ∙ rw (i, h, slot-guarded (s .mask))
+from-number s k e i h =
+    e ∙ ap (λ (n : ℕ). rowFrom (s .nodes) (s .pool) (getD (s .leaves) k 0) (s .cpus) (s .mpidrs) n (s .hash)) i
+    ∙ ap (λ (v : ℕ). rowOf (s .nodes) (s .pool) (getD (s .leaves) k 0) (getD (s .cpus) (getD (s .named) k 0) 0) (mpidr s k) v) (guarded s k h)
 
 -- one row more
 pub row-more :

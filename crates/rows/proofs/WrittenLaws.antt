@@ -5,7 +5,6 @@ use Prim.Native.Nat.{ℕ, _+_, _*_, _≤_, _<_}
 use native.Mathlib.Omega.{arith}
 use lib.ListN.{length, getD, take, drop, length-append, length-drop, List·getD-append}
 use lib.Seq.{take-at, drop-at}
-use borrow.Author.Tests.{le-leb}
 use Rattle.rows.specs.Fits.{rowSize}
 use Rattle.rows.specs.Write.{Source, rowsBelow, written}
 use Rattle.rows.proofs.RowLaws.{rows-length}
@@ -17,20 +16,20 @@ module _ (s : Source) (before : List ℕ) (room : rowSize * length (s .leaves) �
   abbrev rows : List ℕ
   rows = rowsBelow s (length (s .leaves))
 
-  pub written-is : written s before ≡ rows ++ drop words before
-  unfolding written
-  written-is = rw (le-leb words (length before) room)
-
   pub written-front : take words (written s before) ≡ rows
-  written-front = rw written-is (take-at rows (drop words before) words (rows-length s (length (s .leaves))))
+  unfolding written
+  written-front = (take-at rows (drop words before) words (rows-length s (length (s .leaves))))
 
   pub written-rest : drop words (written s before) ≡ drop words before
-  written-rest = rw written-is (drop-at rows (drop words before) words (rows-length s (length (s .leaves))))
+  unfolding written
+  written-rest = (drop-at rows (drop words before) words (rows-length s (length (s .leaves))))
 
   pub written-length : length (written s before) ≡ length before
+  unfolding written
   written-length =
-      rw (written-is, length-append rows (drop words before), rows-length s (length (s .leaves)), length-drop words before) (omega arith)
+      rw (length-append rows (drop words before), rows-length s (length (s .leaves)), length-drop words before) (omega arith)
 
   pub written-at : (i : ℕ) → i < words → getD (written s before) i 0 ≡ getD rows i 0
+  unfolding written
   written-at i lt =
-      let size = rows-length s (length (s .leaves)) in rw written-is (List·getD-append rows (drop words before) 0 i (omega arith))
+      let size = rows-length s (length (s .leaves)) in (List·getD-append rows (drop words before) 0 i (omega arith))

@@ -1,16 +1,17 @@
 -- All rows, and the buffer that they are written into.
-use mathlib.Core.Bool.{Bool, cond}
 use mathlib.Core.List.{List, [], _++_}
 use Prim.Native.Nat.{ℕ, zero, suc, _*_}
-use lib.Dec.{leb}
 use lib.ListN.{length, getD, drop}
 use Rattle.affinity.specs.declared.Hash.{Hash}
-use Rattle.affinity.specs.Hash.{hashOfMask, slotOf, slotGuarded}
+use Rattle.affinity.specs.Hash.{hashOf, slotOf, slotGuarded}
+use Rattle.tables.specs.Board.{Board}
+use Rattle.cpus.specs.Check.{cpuList, mpidrList}
+use Rattle.topology.specs.Scan.{leavesOf, namedOf}
 use Rattle.rows.specs.declared.Row.{Row}
 use Rattle.rows.specs.Fits.{rowSize}
 use Rattle.rows.specs.Row.{rowOf, rowWords}
 
--- what the rows are made of: the tables, the cpu records and their MPIDRs, the leaves and for each the index of the cpu record that it names, and the mask
+-- what the rows are made of: the tables, the cpu records and their MPIDRs, the leaves and for each the index of the cpu record that it names, and the hash
 pub record Source : Type 0 where
   pub nodes : List ℕ
   pub pool : List ℕ
@@ -18,18 +19,18 @@ pub record Source : Type 0 where
   pub mpidrs : List ℕ
   pub leaves : List ℕ
   pub named : List ℕ
-  pub mask : ℕ
+  pub hash : Hash
 
-abbrev pub source : (nodes pool cpus mpidrs leaves named : List ℕ) → ℕ → Source
-source nodes pool cpus mpidrs leaves named mask =
-    record { nodes = nodes; pool = pool; cpus = cpus; mpidrs = mpidrs; leaves = leaves; named = named; mask = mask }
+abbrev pub source : (nodes pool cpus mpidrs leaves named : List ℕ) → Hash → Source
+source nodes pool cpus mpidrs leaves named hash =
+    record { nodes = nodes; pool = pool; cpus = cpus; mpidrs = mpidrs; leaves = leaves; named = named; hash = hash }
 
 -- row number k
 unfoldable pub rowNumber : Source → ℕ → Row
 rowNumber s k =
     let cpu = getD (s .named) k 0 in
     let m = getD (s .mpidrs) cpu 0 in
-    rowOf (s .nodes) (s .pool) (getD (s .leaves) k 0) (getD (s .cpus) cpu 0) m (slotOf (hashOfMask (s .mask)) m)
+    rowOf (s .nodes) (s .pool) (getD (s .leaves) k 0) (getD (s .cpus) cpu 0) m (slotOf (s .hash) m)
 
 -- a leaf's row from the cpu records, their MPIDRs, the index of its cpu and a hash
 abbrev pub rowFrom : List ℕ → List ℕ → ℕ → List ℕ → List ℕ → ℕ → Hash → Row
@@ -42,12 +43,10 @@ unfoldable pub rowsBelow : Source → ℕ → List ℕ
 rowsBelow s zero = []
 rowsBelow s (suc n) = rowsBelow s n ++ rowWords (rowNumber s n)
 
--- whether a buffer has room for n rows
-abbrev pub hasRoom : ℕ → ℕ → Bool
-hasRoom words n = leb (rowSize * n) words
-
--- the buffer after the writing: the rows, and then what it held; unchanged where there is no room
+-- the buffer after the writing: the rows, and then what it held
 unfoldable pub written : Source → List ℕ → List ℕ
-written s before =
-    let n = length (s .leaves) in
-    cond (hasRoom (length before) n) (rowsBelow s n ++ drop (rowSize * n) before) before
+written s before = let n = length (s .leaves) in rowsBelow s n ++ drop (rowSize * n) before
+
+-- what the rows of an accepted board are made of
+abbrev pub sourceOf : Board → Source
+sourceOf b = source (b .nodes) (b .pool) (cpuList b) (mpidrList b) (leavesOf b) (namedOf b) (hashOf (mpidrList b))

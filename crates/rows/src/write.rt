@@ -8,13 +8,14 @@ use topology::Position;
 use topology::position_of;
 ghost use mathlib.Core.Path.{_≡_};
 ghost use mathlib.Core.List.{_++_};
-ghost use Prim.Native.Nat.{_≤_};
+ghost use Prim.Native.Nat.{_*_, _≤_};
 ghost use lib.ListN.{length, drop, getD};
+ghost use Rattle.affinity.specs.Hash.{hashOfMask};
 ghost use Rattle.tables.specs.Board.{parentWord};
 ghost use Rattle.topology.specs.Path.{positionOf};
 ghost use Rattle.rows.specs.Fits.{rowSize};
 ghost use Rattle.rows.specs.Row.{rowWords};
-ghost use Rattle.rows.specs.Write.{hasRoom, written, source, rowFrom};
+ghost use Rattle.rows.specs.Write.{written, source, rowFrom};
 
 // Writes a row at the start of a part of the row buffer.
 fn put_row(part: &mut [u32], row: Row)
@@ -96,7 +97,7 @@ fn leaf_row(
     )
 }
 
-// Writes a row for each leaf. False, and nothing written, where the buffer is too short for them.
+// Writes a row for each leaf.
 pub fn write_rows(
     rows: &mut [u32],
     nodes: &[u32],
@@ -105,17 +106,14 @@ pub fn write_rows(
     mpidrs: &[u64],
     leaves: &[usize],
     named: &[usize],
-    mask: u64,
-) -> bool
-    ensures room { λ r. ⌜ r ≡ hasRoom (length (now (rows .entry))) (length (now (leaves .entry))) ⌝ }
-    ensures rows { λ _.
-        ⌜ now (rows .exit) ≡ written (source (now (nodes .entry)) (now (pool .entry)) (now (cpus .entry)) (now (mpidrs .entry)) (now (leaves .entry)) (now (named .entry)) mask) (now (rows .entry)) ⌝ }
+    hash: Hash,
+)
+    requires room { ⌜ rowSize * length (now leaves) ≤ length (now rows) ⌝ }
+    requires hash { ⌜ hash ≡ hashOfMask (hash .mask) ⌝ }
+    ensures { λ _.
+        ⌜ now (rows .exit) ≡ written (source (now (nodes .entry)) (now (pool .entry)) (now (cpus .entry)) (now (mpidrs .entry)) (now (leaves .entry)) (now (named .entry)) hash) (now (rows .entry)) ⌝ }
 {
     let count = leaves.len();
-    if rows.len() / ROW_WORDS < count {
-        return false;
-    }
-    let hash = affinity::hash_of_mask(mask);
     let mut parent: usize = 0;
     let mut above = position_of(nodes, pool, 0);
     let mut k: usize = 0;
@@ -130,5 +128,4 @@ pub fn write_rows(
         put_row(&mut rows[start..], row);
         k += 1;
     }
-    true
 }

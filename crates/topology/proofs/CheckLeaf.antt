@@ -16,14 +16,14 @@ use Rattle.cpus.specs.Check.{cpuList}
 use Rattle.topology.specs.declared.RecordCheck.{RecordCheck}
 use Rattle.topology.specs.Map.{Map, InMap, Leaf, Names}
 use Rattle.topology.specs.Path.{topologyName}
-use Rattle.topology.specs.Check.{hasChild, cpuCells, isLeafName}
-use Rattle.topology.specs.Scan.{Tree, tree, check, isLeaf, cpuOf}
+use Rattle.topology.specs.Check.{hasChild, isLeafName}
+use Rattle.topology.specs.Scan.{Tree, treeAt, check, isLeaf, cpuOf}
 use Rattle.topology.proofs.ChildMeans.{childless-test}
 use Rattle.topology.proofs.NameFacts.{Says, topology-is, topology-says}
 use Rattle.topology.proofs.MapMeans.{in-map-below}
 use Rattle.topology.proofs.CheckCases.{shapeNumber, answers-number, Under, Checked, checked}
 use Rattle.topology.proofs.LeafCount.{leaf-is}
-use Rattle.topology.proofs.PhandleMeans.{cpuAt, cpuIndex, phandlesOf, in-cpus}
+use Rattle.topology.proofs.PhandleMeans.{cpuAt, cpuIndex, in-cpus}
 use Rattle.topology.proofs.LeafMeans.{index-names, names-index}
 
 pub leaf-in-map : {b : Board} {i : ℕ} → Leaf b i → InMap b i
@@ -53,10 +53,6 @@ module _ {b : Board} (well : WellFormed b) (i : ℕ) where
   leaf-name (Leaf.aThread s t) = rw (topology-is b well i Kind.thread (t .0) (in-map-inside s) .1 (t .1))
   leaf-name (Leaf.aCore s t none) =
       rw (topology-is b well i Kind.core (t .0) (in-map-inside s) .1 (t .1), childless-test (b .nodes) (wf-depth well) i .1 none)
-
--- the tables with the map's record m and the cpu records' phandles
-abbrev pub treeAt : Board → ℕ → Tree
-treeAt b m = tree (b .nodes) (cpuCells (b .props) (b .pool)) (b .pool) m (phandlesOf b)
 
 -- a record under the map
 module _ {b : Board} {m : ℕ} (is-map : Map b m) (i : ℕ) where

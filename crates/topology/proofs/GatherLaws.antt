@@ -9,7 +9,7 @@ use native.Mathlib.Omega.{arith}
 use lib.Dec.{eqb}
 use lib.ListN.{length, getD, set, replicate, length-set, length-replicate, getD-replicate, List·getD-eq-default}
 use lib.Seq.{getD-set-same, getD-set-other}
-use borrow.Author.Tests.{le-ltb, ne-eqb, eqb-true, eqb-false}
+use borrow.Author.Tests.{ne-eqb, eqb-true, eqb-false}
 use Rattle.laws.specs.Fault.{clear, orNumber, firstFault}
 use Rattle.laws.specs.Search.{anyBelow, countBelow, listBelow}
 use Rattle.laws.specs.Listed.{over}
@@ -79,11 +79,8 @@ module _ (t : Tree) (leaves₀ named₀ : List ℕ) where
     abbrev LeftHere : Type 0
     LeftHere = Left t leaves₀ named₀ marks leaves named
 
-    left : length (t .phandles) ≤ maxCpus → passed t ≡ i → LeftHere
-    unfolding leavesOver namedOver
-    left few e =
-        let fits = le-ltb maxCpus (length (t .phandles)) few in
-        record { marks-left = rw e (g .marks-are); leaves-left = rw (fits, e) (g .leaves-are); named-left = rw (fits, e) (g .named-are) }
+    left : passed t ≡ i → LeftHere
+    left e = record { marks-left = rw e (g .marks-are); leaves-left = rw e (g .leaves-are); named-left = rw e (g .named-are) }
 
     -- record i breaks a rule
     module _ {v : ℕ} (lt : i < nodeCount (t .nodes)) (e : v ≡ treeFault t i) (ne : v ≡ 0 → ⊥) where
@@ -94,8 +91,8 @@ module _ (t : Tree) (leaves₀ named₀ : List ℕ) where
       unfolding leafScan
       told-scan = rw (first-at, ne-eqb v 0 ne)
 
-      pub told-left : length (t .phandles) ≤ maxCpus → LeftHere
-      told-left few = left few (rw (first-at, ne-eqb v 0 ne))
+      pub told-left : LeftHere
+      told-left = left (rw (first-at, ne-eqb v 0 ne))
 
     -- all records are passed
     module _ (e : i ≡ nodeCount (t .nodes)) where
@@ -108,8 +105,8 @@ module _ (t : Tree) (leaves₀ named₀ : List ℕ) where
           let size : count ≡ length (leafList t) = g .counted ∙ sym (list-length (isLeaf t) i) ∙ ap (λ (k : ℕ). length (listBelow (isLeaf t) k)) e in
           rw (first-none, size)
 
-      pub all-left : length (t .phandles) ≤ maxCpus → LeftHere
-      all-left few = left few (rw first-none (sym e))
+      pub all-left : LeftHere
+      all-left = left (rw first-none (sym e))
 
     -- record i breaks none
     module _ {v : ℕ} (e : v ≡ treeFault t i) (z : v ≡ 0) where

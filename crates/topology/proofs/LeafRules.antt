@@ -3,6 +3,7 @@ use mathlib.Core.Path.{_≡_, refl, sym, _∙_}
 use mathlib.Core.Bool.{Bool, true, false, cond}
 use Prim.Native.Nat.{ℕ, _≤_, _<_}
 use native.Mathlib.Omega.{arith}
+use Rattle.laws.specs.Search.{countBelow}
 use Rattle.laws.proofs.SearchLaws.{true-false}
 use Rattle.laws.proofs.LeastLaws.{Tested}
 use Rattle.tables.specs.Board.{Board, Typed, nodeCount}
@@ -13,10 +14,15 @@ use Rattle.cpus.specs.Check.{isCpu}
 use Rattle.cpus.proofs.CpuMeans.{cpu-test}
 use Rattle.topology.specs.Map.{Map, Leaf, Names}
 use Rattle.topology.specs.Rules.{MapRule}
-use Rattle.topology.specs.Scan.{Tree, check, isLeaf, cpuOf, namedBelow, repeatFault, unmappedFault}
+use Rattle.topology.specs.Scan.{Tree, treeAt, check, isLeaf, cpuOf, namedBelow, repeatFault}
 use Rattle.topology.proofs.LeafCount.{named-at, named-by}
 use Rattle.topology.proofs.PhandleMeans.{cpuAt, cpuIndex, cpu-index}
-use Rattle.topology.proofs.CheckLeaf.{leaf-in-map, in-map-inside, treeAt, check-leaf, leaf-check, names-cpu}
+use Rattle.topology.proofs.CheckLeaf.{leaf-in-map, in-map-inside, check-leaf, leaf-check, names-cpu}
+
+-- rule 26 at record i: the cpu record, whose index is the count of earlier ones, is named by no leaf
+unfoldable pub unmappedFault : Tree → ℕ → ℕ
+unmappedFault t i =
+    cond (isCpu (t .nodes) (t .pool) i) (cond (namedBelow t (nodeCount (t .nodes)) (countBelow (isCpu (t .nodes) (t .pool)) i)) 0 26) 0
 
 -- what a broken rule from 24 on says
 pub data Late (b : Board) (n i : ℕ) : Type 0 where

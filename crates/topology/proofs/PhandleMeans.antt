@@ -9,7 +9,7 @@ use Rattle.tables.specs.Board.{Board, Typed, nodeCount}
 use Rattle.tables.specs.Rules.{WellFormed}
 use Rattle.cpus.specs.Node.{Cpu, Phandle}
 use Rattle.cpus.specs.Rules.{maxCpus, CpuRule, SoundCpus}
-use Rattle.cpus.specs.Check.{isCpu, cpuList, phandleOf, cellNumber, phandleList}
+use Rattle.cpus.specs.Check.{isCpu, cpuList, phandleReadings, phandleList}
 use Rattle.cpus.proofs.CpuMeans.{cpu-test, cpu-listing, cpu-count}
 use Rattle.cpus.proofs.CpuGives.{count-range, cpu-phandle, phandle-distinct}
 
@@ -20,19 +20,16 @@ cpuAt b k = getD (cpuList b) k 0
 abbrev pub cpuIndex : Board → ℕ → ℕ
 cpuIndex b c = countBelow (isCpu (b .nodes) (b .pool)) c
 
-abbrev pub phandlesOf : Board → List ℕ
-phandlesOf b = phandleList (b .nodes) (b .props) (b .pool)
-
 abbrev phandleNumber : Board → ℕ → ℕ
-phandleNumber b c = cellNumber (phandleOf (b .props) (b .pool) c)
+phandleNumber b c = phandleReadings b c .value
 
-pub phandle-count : (b : Board) → length (phandlesOf b) ≡ length (cpuList b)
+pub phandle-count : (b : Board) → length (phandleList b) ≡ length (cpuList b)
 phandle-count b = length-map (cpuList b) (phandleNumber b)
 
-pub in-cpus : (b : Board) {k : ℕ} → k < length (phandlesOf b) → k < length (cpuList b)
+pub in-cpus : (b : Board) {k : ℕ} → k < length (phandleList b) → k < length (cpuList b)
 in-cpus b lt = rw (phandle-count b) at lt
 
-pub in-phandles : (b : Board) {k : ℕ} → k < length (cpuList b) → k < length (phandlesOf b)
+pub in-phandles : (b : Board) {k : ℕ} → k < length (cpuList b) → k < length (phandleList b)
 in-phandles b lt = rw (phandle-count b) lt
 
 module _ {b : Board} (well : WellFormed b) where
@@ -43,17 +40,17 @@ module _ {b : Board} (well : WellFormed b) where
   index-cpu = cpu-listing well .only
 
 module _ {b : Board} (typed : Typed b) (well : WellFormed b) where
-  pub few-phandles : SoundCpus b → length (phandlesOf b) ≤ maxCpus
+  pub few-phandles : SoundCpus b → length (phandleList b) ≤ maxCpus
   few-phandles sound = rw (phandle-count b, ← cpu-count b) (count-range typed well sound .1)
 
   module _ (no17 : (p : ℕ) → CpuRule b 17 p → ⊥) where
-    number-at : (k : ℕ) → k < length (cpuList b) → getD (phandlesOf b) k 0 ≡ phandleNumber b (cpuAt b k)
+    number-at : (k : ℕ) → k < length (cpuList b) → getD (phandleList b) k 0 ≡ phandleNumber b (cpuAt b k)
     number-at k lt = getD-map-lt (phandleNumber b) (cpuList b) k lt
 
-    pub phandle-at : (k : ℕ) → k < length (cpuList b) → Phandle b (cpuAt b k) (getD (phandlesOf b) k 0)
-    phandle-at k lt = let p = cpu-phandle typed well no17 (index-cpu well k lt) in rw (number-at k lt, p .2) (p .1)
+    pub phandle-at : (k : ℕ) → k < length (cpuList b) → Phandle b (cpuAt b k) (getD (phandleList b) k 0)
+    phandle-at k lt = rw (number-at k lt) (cpu-phandle typed well no17 (index-cpu well k lt))
 
     -- different cpu records have different phandles
-    pub index-apart : (j k : ℕ) → j < length (cpuList b) → k < length (cpuList b) → getD (phandlesOf b) j 0 ≡ getD (phandlesOf b) k 0 → j ≡ k
+    pub index-apart : (j k : ℕ) → j < length (cpuList b) → k < length (cpuList b) → getD (phandleList b) j 0 ≡ getD (phandleList b) k 0 → j ≡ k
     index-apart j k lj lk e =
         index-unique (cpu-listing well) j k lj lk (phandle-distinct typed well no17 (index-cpu well j lj) (index-cpu well k lk) (sym (number-at j lj) ∙ e ∙ number-at k lk))

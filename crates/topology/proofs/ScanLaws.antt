@@ -2,38 +2,23 @@
 use mathlib.Core.Path.{_≡_, refl, sym, ap, _∙_}
 use mathlib.Core.Bool.{Bool, true, false, cond}
 use mathlib.Core.List.{List, map}
-use Prim.Native.Nat.{ℕ, zero, suc, _≤_, _<_}
+use Prim.Native.Nat.{ℕ, zero, suc, _≤_}
 use native.Mathlib.Omega.{arith}
-use lib.Dec.{ltb}
 use lib.ListN.{length, getD}
-use borrow.Author.Tests.{lt-ltb, le-ltb, ltb-false, eq-eqb, ne-eqb}
+use borrow.Author.Tests.{eq-eqb, ne-eqb}
 use Rattle.laws.specs.declared.Fault.{Fault}
 use Rattle.laws.specs.Fault.{clear, told, orElse, firstFault}
-use Rattle.laws.specs.Search.{listBelow}
 use Rattle.laws.specs.Listed.{over, toldOf}
-use Rattle.laws.proofs.FaultLaws.{or-first, or-second}
+use Rattle.laws.proofs.FaultLaws.{or-first, or-second, below-clear}
 use Rattle.laws.proofs.OrElseLaws.{or-clear}
 use Rattle.laws.proofs.RuleStageLaws.{first-clears}
 use Rattle.laws.proofs.GatherLaws.{first-same}
-use Rattle.laws.proofs.ListedLaws.{first-listed}
 use Rattle.tables.specs.Board.{nodeCount}
-use Rattle.cpus.specs.Check.{isCpu}
-use Rattle.cpus.specs.Rules.{maxCpus}
 use Rattle.topology.specs.declared.TreeScan.{TreeScan}
-use Rattle.topology.specs.Scan.{Tree, cpuOf, namedBelow, treeFault, unmappedFault, leavesFault, leafList, scanned, scanFault, treeScan, passed, leavesOver, namedOver}
+use Rattle.topology.specs.Scan.{Tree, cpuOf, namedBelow, treeFault, leavesFault, leafList, scanned, treeScan, passed, leavesOver, namedOver}
 use Rattle.topology.specs.Pass.{Marked, leafScan, unmarkedFault}
-use Rattle.topology.proofs.LeafCount.{leaves-fit}
+use Rattle.topology.proofs.LeafCount.{leaves-le, clear-apart}
 use Rattle.topology.proofs.GatherLaws.{marked-is}
-
--- where there are too many phandles the lent arrays stay as they were
-module _ (t : Tree) (lt : maxCpus < length (t .phandles)) where
-  pub many-leaves : (before : List ℕ) → before ≡ leavesOver t before
-  unfolding leavesOver
-  many-leaves before = rw (lt-ltb maxCpus (length (t .phandles)) lt)
-
-  pub many-named : (before : List ℕ) → before ≡ namedOver t before
-  unfolding namedOver
-  many-named before = rw (lt-ltb maxCpus (length (t .phandles)) lt)
 
 -- what the passes tell
 module _ (t : Tree) (records : List ℕ) where
@@ -46,14 +31,10 @@ module _ (t : Tree) (records : List ℕ) where
   abbrev last : Fault
   last = toldOf records unnamed
 
-  pub many-told : maxCpus < length (t .phandles) → record { number = 10; place = 0; count = 0 } ≡ treeScan t records
-  unfolding treeScan scanFault
-  many-told lt = rw (lt-ltb maxCpus (length (t .phandles)) lt)
-
-  module _ (few : length (t .phandles) ≤ maxCpus) {s : TreeScan} (e : s ≡ leafScan t) where
+  module _ {s : TreeScan} (e : s ≡ leafScan t) where
     stages : scanned t (orElse first last) ≡ treeScan t records
-    unfolding treeScan scanFault
-    stages = rw (le-ltb maxCpus (length (t .phandles)) few)
+    unfolding leavesFault
+    stages = refl
 
     number-is : s .number ≡ first .number
     unfolding leafScan
@@ -93,35 +74,17 @@ module _ (t : Tree) (records : List ℕ) where
             clears : f ≡ clear
             clears = h ∙ told-clear (unnamed .number) (getD records (unnamed .place) 0) (ap (λ (a : Fault). a .number) (sym h) ∙ y)
 
--- rule 26 told of the board's cpu records
-pub scan-listed : (t : Tree) (records : List ℕ) → records ≡ listBelow (isCpu (t .nodes) (t .pool)) (nodeCount (t .nodes)) → scanFault t records ≡ leavesFault t
-unfolding scanFault leavesFault unmappedFault
-scan-listed t records e =
-    rw (e, first-listed (isCpu (t .nodes) (t .pool)) (λ k _. cond (namedBelow t (nodeCount (t .nodes)) k) 0 26) (nodeCount (t .nodes)))
+-- where no rule is broken, the lent arrays hold all leaves, of which there are no more than phandles
+module _ (t : Tree) (records : List ℕ) (z : leavesFault t records .number ≡ 0) where
+  first-clear : firstFault (treeFault t) (nodeCount (t .nodes)) ≡ clear
+  unfolding leavesFault
+  first-clear = first-clears (treeFault t) (nodeCount (t .nodes)) (or-clear (firstFault (treeFault t) (nodeCount (t .nodes))) _ z .0)
 
--- where no rule is broken, the lent arrays hold all leaves, of which there are few
-module _ (t : Tree) (records : List ℕ) (z : scanFault t records .number ≡ 0) where
-  few-clear : (length (t .phandles) ≤ maxCpus) × (firstFault (treeFault t) (nodeCount (t .nodes)) ≡ clear)
-  unfolding scanFault
-  few-clear = go (ltb maxCpus (length (t .phandles))) refl z
-    where
-      first : Fault
-      first = firstFault (treeFault t) (nodeCount (t .nodes))
-
-      last : Fault
-      last = toldOf records (firstFault (λ k. cond (namedBelow t (nodeCount (t .nodes)) k) 0 26) (length records))
-
-      go : (b : Bool) → ltb maxCpus (length (t .phandles)) ≡ b → cond b (told 10 0) (orElse first last) .number ≡ 0 → (length (t .phandles) ≤ maxCpus) × (first ≡ clear)
-      go true e q = absurd (omega arith)
-      go false e q = (ltb-false maxCpus (length (t .phandles)) e, first-clears (treeFault t) (nodeCount (t .nodes)) (or-clear first last q .0))
-
-  pub leaves-few : length (leafList t) ≤ maxCpus
-  leaves-few = leaves-fit t (few-clear .0) (nodeCount (t .nodes)) (few-clear .1)
+  pub leaves-few : length (leafList t) ≤ length (t .phandles)
+  leaves-few = leaves-le t (nodeCount (t .nodes)) (clear-apart t (nodeCount (t .nodes)) (below-clear (treeFault t) (nodeCount (t .nodes)) first-clear))
 
   pub leaves-listed : (before : List ℕ) → leavesOver t before ≡ over (leafList t) before
-  unfolding leavesOver
-  leaves-listed before = rw (le-ltb maxCpus (length (t .phandles)) (few-clear .0), few-clear .1)
+  leaves-listed before = rw first-clear
 
   pub named-listed : (before : List ℕ) → namedOver t before ≡ over (map (cpuOf t) (leafList t)) before
-  unfolding namedOver
-  named-listed before = rw (le-ltb maxCpus (length (t .phandles)) (few-clear .0), few-clear .1)
+  named-listed before = rw first-clear

@@ -17,10 +17,10 @@ use Rattle.cpus.specs.Check.{cpuList}
 use Rattle.cpus.proofs.CpuMeans.{cpu-listing}
 use Rattle.topology.specs.Map.{Map, Leaf, Names}
 use Rattle.topology.specs.Rules.{MapRule}
-use Rattle.topology.specs.Scan.{Tree, check, isLeaf, cpuOf, namedBelow, leafList}
+use Rattle.topology.specs.Scan.{Tree, treeAt, check, isLeaf, cpuOf, namedBelow, leafList}
 use Rattle.topology.proofs.PhandleMeans.{cpuAt, cpuIndex, phandle-count, few-phandles}
 use Rattle.topology.proofs.LeafMeans.{names-unique}
-use Rattle.topology.proofs.CheckLeaf.{leaf-in-map, in-map-inside, treeAt, check-leaf, leaf-check}
+use Rattle.topology.proofs.CheckLeaf.{leaf-in-map, in-map-inside, check-leaf, leaf-check}
 use Rattle.topology.proofs.LeafRules.{cpu-named, cpu-unnamed}
 use Rattle.topology.proofs.TreeLeast.{sound-checks}
 

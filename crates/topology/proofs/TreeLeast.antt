@@ -17,14 +17,14 @@ use Rattle.topology.specs.declared.RecordCheck.{RecordCheck}
 use Rattle.topology.specs.Map.{Map, InMap, Leaf}
 use Rattle.topology.specs.Rules.{MapRule}
 use Rattle.topology.specs.Check.{groupFault}
-use Rattle.topology.specs.Scan.{Tree, check, repeatFault, treeFault}
+use Rattle.topology.specs.Scan.{Tree, treeAt, check, repeatFault, treeFault}
 use Rattle.topology.proofs.NameFacts.{root-nameless}
 use Rattle.topology.proofs.MapMeans.{outside-is}
 use Rattle.topology.proofs.RecordMeans.{record-told}
 use Rattle.topology.proofs.PlaceMeans.{root-told, below-told, map-told, outside-told}
 use Rattle.topology.proofs.CheckCases.{shapeNumber, strayNumber, leafName, named, Answers, answers-fault, Under, Checked, checked, check-shape, fault-check, check-fault}
 use Rattle.topology.proofs.LeafMeans.{index-names, names-none}
-use Rattle.topology.proofs.CheckLeaf.{name-leaf, leaf-name, treeAt, under-in-map, in-map-under}
+use Rattle.topology.proofs.CheckLeaf.{name-leaf, leaf-name, under-in-map, in-map-under}
 use Rattle.topology.proofs.LeafRules.{Late, rule-late, rule-24, repeat-tested}
 
 -- rules 24 and 25 are broken by leaves only

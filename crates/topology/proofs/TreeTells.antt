@@ -1,15 +1,13 @@
 -- The first broken one of rules 18 to 26 is told. Assumes well-formed tables, sound cpu nodes and phandles.
 use mathlib.Core.Path.{_≡_}
-use mathlib.Core.Bool.{Bool, true, false, cond}
+use mathlib.Core.Bool.{cond}
 use mathlib.Core.Logic.{⊎-elim}
 use Prim.Native.Nat.{ℕ, _≤_, _<_}
 use native.Mathlib.Omega.{arith}
-use lib.Dec.{ltb}
-use lib.ListN.{length}
-use borrow.Author.Tests.{le-ltb}
 use Rattle.laws.specs.declared.Fault.{Fault}
-use Rattle.laws.specs.Fault.{told, orElse, firstFault}
+use Rattle.laws.specs.Fault.{orElse, firstFault}
 use Rattle.laws.proofs.FaultLaws.{place-le}
+use Rattle.laws.proofs.ListedLaws.{first-listed}
 use Rattle.laws.proofs.FirstLaws.{Tells, Stage, stage-tells}
 use Rattle.laws.proofs.RuleStageLaws.{NoneOf, stages-tell, else-place}
 use Rattle.laws.proofs.LeastLaws.{least-one}
@@ -17,30 +15,30 @@ use Rattle.laws.proofs.LeastStageLaws.{Run, least-stage}
 use Rattle.tables.specs.Board.{Board, Typed, nodeCount}
 use Rattle.tables.specs.Order.{stage}
 use Rattle.tables.specs.Rules.{WellFormed}
-use Rattle.cpus.specs.Rules.{maxCpus, CpuRule, SoundCpus}
+use Rattle.cpus.specs.Rules.{CpuRule, SoundCpus}
+use Rattle.cpus.specs.Check.{isCpu, cpuList}
 use Rattle.topology.specs.Map.{Map}
 use Rattle.topology.specs.Rules.{MapRule}
-use Rattle.topology.specs.Scan.{Tree, check, treeFault, unmappedFault, leavesFault}
-use Rattle.topology.proofs.PhandleMeans.{few-phandles}
-use Rattle.topology.proofs.CheckLeaf.{treeAt}
-use Rattle.topology.proofs.LeafRules.{unmapped-tested}
+use Rattle.topology.specs.Scan.{Tree, treeAt, check, namedBelow, treeFault, leavesFault}
+use Rattle.topology.proofs.LeafRules.{unmappedFault, unmapped-tested}
 use Rattle.topology.proofs.RuleStages.{stage-13, stage-14, late-stage}
 use Rattle.topology.proofs.TreeLeast.{sound-checks, tree-least}
 
--- a place told is at most the number of records
-pub leaves-place : (t : Tree) → leavesFault t .place ≤ nodeCount (t .nodes)
-unfolding leavesFault
-leaves-place t = go (ltb maxCpus (length (t .phandles)))
-  where
-    here : Fault
-    here = firstFault (treeFault t) (nodeCount (t .nodes))
+-- the leaves' stages, place by place: rule 26 told of the cpu records of the tables
+module _ (b : Board) (m : ℕ) where
+  abbrev here : Fault
+  here = firstFault (treeFault (treeAt b m)) (nodeCount (b .nodes))
 
-    there : Fault
-    there = firstFault (unmappedFault t) (nodeCount (t .nodes))
+  abbrev there : Fault
+  there = firstFault (unmappedFault (treeAt b m)) (nodeCount (b .nodes))
 
-    go : (many : Bool) → cond many (told 10 0) (orElse here there) .place ≤ nodeCount (t .nodes)
-    go true = omega arith
-    go false = else-place here there (place-le (treeFault t) (nodeCount (t .nodes))) (λ _. place-le (unmappedFault t) (nodeCount (t .nodes)))
+  leaf-places : leavesFault (treeAt b m) (cpuList b) ≡ orElse here there
+  unfolding leavesFault unmappedFault
+  leaf-places = rw (first-listed (isCpu (b .nodes) (b .pool)) (λ k _. cond (namedBelow (treeAt b m) (nodeCount (b .nodes)) k) 0 26) (nodeCount (b .nodes)))
+
+  -- a place told is at most the number of records
+  pub leaves-place : leavesFault (treeAt b m) (cpuList b) .place ≤ nodeCount (b .nodes)
+  leaves-place = rw leaf-places (else-place here there (place-le (treeFault (treeAt b m)) (nodeCount (b .nodes))) (λ _. place-le (unmappedFault (treeAt b m)) (nodeCount (b .nodes))))
 
 module _ {b : Board} (typed : Typed b) (well : WellFormed b) (sound : SoundCpus b) (no17 : (p : ℕ) → CpuRule b 17 p → ⊥) {m : ℕ} (is-map : Map b m) where
   abbrev t : Tree
@@ -85,10 +83,9 @@ module _ {b : Board} (typed : Typed b) (well : WellFormed b) (sound : SoundCpus 
           clean = sound-checks typed well sound no17 is-map (λ n p r l h. none n p (into n p r) (tree-run .in-stage n p r l h))
 
       -- what the scan of the tree tells, and what comes after it where none of rules 18 to 26 is broken
-      pub tree-tells : (after : Fault) → (((n p : ℕ) → MapRule b n p → 18 ≤ n → ⊥) → Tells stage R 15 after) → Tells stage R 13 (orElse (leavesFault t) after)
-      unfolding leavesFault
+      pub tree-tells : (after : Fault) → (((n p : ℕ) → MapRule b n p → 18 ≤ n → ⊥) → Tells stage R 15 after) → Tells stage R 13 (orElse (leavesFault t (cpuList b)) after)
       tree-tells after rest =
-          rw (le-ltb maxCpus (length (t .phandles)) (few-phandles typed well sound))
+          rw (leaf-places b m)
           (stages-tell stage R 13 count (treeFault t) (firstFault (unmappedFault t) count) after tree-stage
           (λ none. stage-tells stage R 14 count (unmappedFault t) after (unmapped-stage none) (λ later. rest (neither none later))))
         where

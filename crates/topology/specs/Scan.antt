@@ -2,19 +2,19 @@
 use mathlib.Core.Bool.{Bool, false, cond}
 use mathlib.Core.List.{List, map}
 use Prim.Native.Nat.{ℕ}
-use lib.Dec.{eqb, ltb}
+use lib.Dec.{eqb}
 use lib.ListN.{length}
 use Rattle.laws.specs.declared.Fault.{Fault}
-use Rattle.laws.specs.Fault.{told, orElse, orNumber, firstFault}
-use Rattle.laws.specs.Search.{anyBelow, countBelow, listBelow}
+use Rattle.laws.specs.Fault.{orElse, orNumber, firstFault}
+use Rattle.laws.specs.Search.{anyBelow, listBelow}
 use Rattle.laws.specs.Listed.{over, toldOf}
-use Rattle.tables.specs.Board.{nodeCount}
+use Rattle.tables.specs.Board.{Board, nodeCount}
 use Rattle.cpus.specs.declared.Cell.{Cell}
-use Rattle.cpus.specs.Check.{isCpu}
-use Rattle.cpus.specs.Rules.{maxCpus}
+use Rattle.cpus.specs.Check.{phandleList}
 use Rattle.topology.specs.declared.RecordCheck.{RecordCheck}
 use Rattle.topology.specs.declared.TreeScan.{TreeScan}
-use Rattle.topology.specs.Check.{recordCheck}
+use Rattle.topology.specs.Find.{mapOf}
+use Rattle.topology.specs.Check.{recordCheck, cpuCells}
 
 -- The tables, the cells of the records' `cpu`, the map's record and the cpu records' phandles.
 pub record Tree : Type 0 where
@@ -49,17 +49,6 @@ repeatFault t i = cond (isLeaf t i) (cond (namedBelow t i (cpuOf t i)) 25 0) 0
 unfoldable pub treeFault : Tree → ℕ → ℕ
 treeFault t i = orNumber (check t i .number) (repeatFault t i)
 
--- rule 26 at record i: the cpu record, whose index is the count of earlier ones, is named by no leaf
-unfoldable pub unmappedFault : Tree → ℕ → ℕ
-unmappedFault t i =
-    cond (isCpu (t .nodes) (t .pool) i) (cond (namedBelow t (nodeCount (t .nodes)) (countBelow (isCpu (t .nodes) (t .pool)) i)) 0 26) 0
-
--- the first of rules 18 to 26 that is broken; 10 where there are too many phandles
-unfoldable pub leavesFault : Tree → Fault
-leavesFault t =
-    cond (ltb maxCpus (length (t .phandles))) (told 10 0)
-    (orElse (firstFault (treeFault t) (nodeCount (t .nodes))) (firstFault (unmappedFault t) (nodeCount (t .nodes))))
-
 -- the leaves, rising
 abbrev pub leafList : Tree → List ℕ
 leafList t = listBelow (isLeaf t) (nodeCount (t .nodes))
@@ -68,24 +57,37 @@ leafList t = listBelow (isLeaf t) (nodeCount (t .nodes))
 abbrev pub scanned : Tree → Fault → TreeScan
 scanned t f = record { number = f .number; place = f .place; count = cond (eqb (f .number) 0) (length (leafList t)) 0 }
 
--- the first of rules 18 to 26 that is broken, rule 26 told of a list of cpu records; 10 where there are too many phandles
-unfoldable pub scanFault : Tree → List ℕ → Fault
-scanFault t records =
-    cond (ltb maxCpus (length (t .phandles))) (told 10 0)
-    (orElse (firstFault (treeFault t) (nodeCount (t .nodes)))
-    (toldOf records (firstFault (λ k. cond (namedBelow t (nodeCount (t .nodes)) k) 0 26) (length records))))
+-- the first of rules 18 to 26 that is broken, rule 26 told of a list of cpu records
+unfoldable pub leavesFault : Tree → List ℕ → Fault
+leavesFault t records =
+    orElse (firstFault (treeFault t) (nodeCount (t .nodes)))
+    (toldOf records (firstFault (λ k. cond (namedBelow t (nodeCount (t .nodes)) k) 0 26) (length records)))
 
 -- how many leaves there are, or the first of rules 18 to 26 that is broken
-unfoldable pub treeScan : Tree → List ℕ → TreeScan
-treeScan t records = scanned t (scanFault t records)
+abbrev pub treeScan : Tree → List ℕ → TreeScan
+treeScan t records = scanned t (leavesFault t records)
+
+-- the tables of a board with a record m and the cpu records' phandles; with the map's record
+abbrev pub treeAt : Board → ℕ → Tree
+treeAt b m = tree (b .nodes) (cpuCells (b .props) (b .pool)) (b .pool) m (phandleList b)
+
+abbrev pub treeOf : Board → Tree
+treeOf b = treeAt b (mapOf (b .nodes) (b .pool))
+
+-- its leaves, and for each the index of the cpu record that it names
+abbrev pub leavesOf : Board → List ℕ
+leavesOf b = leafList (treeOf b)
+
+abbrev pub namedOf : Board → List ℕ
+namedOf b = map (cpuOf (treeOf b)) (leavesOf b)
 
 -- the records before the first that breaks rules 18 to 25
 abbrev pub passed : Tree → ℕ
 passed t = let f = firstFault (treeFault t) (nodeCount (t .nodes)) in cond (eqb (f .number) 0) (nodeCount (t .nodes)) (f .place)
 
 -- the lent arrays after the scan: the leaves among the records passed, and the cpus that they name
-unfoldable pub leavesOver : Tree → List ℕ → List ℕ
-leavesOver t before = cond (ltb maxCpus (length (t .phandles))) before (over (listBelow (isLeaf t) (passed t)) before)
+abbrev pub leavesOver : Tree → List ℕ → List ℕ
+leavesOver t before = over (listBelow (isLeaf t) (passed t)) before
 
-unfoldable pub namedOver : Tree → List ℕ → List ℕ
-namedOver t before = cond (ltb maxCpus (length (t .phandles))) before (over (map (cpuOf t) (listBelow (isLeaf t) (passed t))) before)
+abbrev pub namedOver : Tree → List ℕ → List ℕ
+namedOver t before = over (map (cpuOf t) (listBelow (isLeaf t) (passed t))) before

@@ -5,13 +5,14 @@ use crate::gather::is_marked;
 use crate::gather::refuse;
 use cpus::MAX_CPUS;
 use keys::KEY_WORDS;
-use laws::BAD_CPU_COUNT;
 use laws::Fault;
 use laws::UNMAPPED_CPU;
 ghost use mathlib.Core.Path.{_≡_};
+ghost use Prim.Native.Nat.{_≤_};
 ghost use lib.ListN.{length};
 ghost use Rattle.laws.specs.Fault.{firstFault};
 ghost use Rattle.laws.specs.Listed.{toldOf};
+ghost use Rattle.cpus.specs.Rules.{maxCpus};
 ghost use Rattle.topology.specs.Check.{keyCells};
 ghost use Rattle.topology.specs.Scan.{tree, treeScan, leavesOver, namedOver};
 ghost use Rattle.topology.specs.Pass.{unmarkedFault};
@@ -38,7 +39,7 @@ fn first_unmapped(records: &[usize], marks: &[u8]) -> Fault
     }
 }
 
-// Checks rules 18 to 26, and lists the leaves, and for each the index of the cpu record that it names; 10 where there are too many phandles.
+// Checks rules 18 to 26, and lists the leaves, and for each the index of the cpu record that it names.
 pub fn read_tree(
     nodes: &[u32],
     props: &[u32],
@@ -50,6 +51,7 @@ pub fn read_tree(
     leaves: &mut [usize; MAX_CPUS],
     named: &mut [usize; MAX_CPUS],
 ) -> TreeScan
+    requires { ⌜ length (now phandles) ≤ maxCpus ⌝ }
     ensures answer { λ r.
         let t = tree (now (nodes .entry)) (keyCells (now (props .entry)) (now (pool .entry)) (now (keys .entry))) (now (pool .entry)) map (now (phandles .entry)) in
         ⌜ r ≡ treeScan t (now («cpu_records» .entry)) ⌝ }
@@ -60,9 +62,6 @@ pub fn read_tree(
         let t = tree (now (nodes .entry)) (keyCells (now (props .entry)) (now (pool .entry)) (now (keys .entry))) (now (pool .entry)) map (now (phandles .entry)) in
         ⌜ now (named .exit) ≡ namedOver t (now (named .entry)) ⌝ }
 {
-    if MAX_CPUS < phandles.len() {
-        return refuse(BAD_CPU_COUNT, 0);
-    }
     let mut marks = [0u8; MAX_CPUS];
     let scan = gather(
         nodes,

@@ -1,124 +1,101 @@
--- `read_tables` stops at the first fault of rules 1 to 10, and leaves the rest to `read_records`. Assumes nothing.
+-- `read_tables` refuses what the survey refuses, then where there is no room, and else writes the rows. Assumes nothing.
+use Rattle.topology.specs.Scan.{leavesOf, namedOf}
 use mathlib.Core.Path.{_≡_, refl, sym, ap, _∙_}
-use mathlib.Core.List.{List}
-use Prim.Native.Nat.{ℕ, zero, suc, _≤_}
+use mathlib.Core.List.{List, map}
+use Prim.Native.Nat.{ℕ, _*_, _≤_, _<_}
 use native.Mathlib.Omega.{arith}
-use lib.ListN.{length, replicate}
-use Rattle.laws.specs.declared.Fault.{Fault}
-use Rattle.laws.specs.Fault.{told, orElse, firstFault}
+use lib.ListN.{length, take, replicate, length-map, length-replicate}
 use Rattle.laws.specs.Listed.{over}
-use Rattle.laws.proofs.OrElseLaws.{told-number, or-clear}
-use Rattle.tables.specs.Board.{Board, Typed, board, nodeCount}
-use Rattle.tables.specs.Rules.{WellFormed}
-use Rattle.tables.specs.Check.{tableFault}
-use Rattle.tables.proofs.RuleLaws.{table-sound}
+use Rattle.affinity.specs.Mask.{maskOf}
+use Rattle.affinity.specs.Hash.{hashOfMask}
+use Rattle.tables.specs.Board.{Board, Typed, board}
 use Rattle.cpus.specs.Rules.{maxCpus}
-use Rattle.cpus.specs.Check.{rootFault, addressCells, cpuCount, cpuList, countFault, cpuFault}
+use Rattle.cpus.specs.Check.{cpuCount, cpuList, mpidrList}
 use Rattle.cpus.proofs.CpuMeans.{cpu-count}
-use Rattle.cpus.proofs.RootLaws.{count-fits, cells-broken, cells-sound}
-use Rattle.board.specs.Answer.{mpidrList, sourceOf}
-use Rattle.board.proofs.OutcomeLaws.{Found, found, Outcome, tells-first, passes, same-outcome}
+use Rattle.rows.specs.Fits.{rowSize}
+use Rattle.board.specs.Survey.{surveyFault, surveyOf, Lists}
 use Rattle.board.proofs.FrontLaws.{front-fits, front-size, front-is}
-use Rattle.board.proofs.ReadLaws.{fromMap, board-stages, Met, meets}
-use Rattle.board.proofs.RecordLaws.{records-stages, records-found}
+use Rattle.board.proofs.ReadLaws.{Met, refuses-survey, none, counts, refuses-room, accepts, hash-made}
+use Rattle.board.proofs.SurveyLaws.{survey-few}
 use borrow.Author.Needs.{needs}
 use Rattle.board.proofs.read_tables.Statement.{statement}
 use Rattle.board.proofs.read_tables.Tie as tie
 use Rattle.board.proofs.read_tables.Reads as reads
 use Rattle.board.proofs.read_tables.Lts as lts
-use Rattle.board.proofs.records.read_records.Reads as read-records-reads
+use Rattle.affinity.proofs.mask_of.Reads as mask-of-reads
+use Rattle.affinity.proofs.hash_of_mask.Reads as hash-of-mask-reads
 use Rattle.board.proofs.refused.Reads as refused-reads
-use Rattle.cpus.proofs.count_fault.Reads as count-fault-reads
-use Rattle.cpus.proofs.list_cpus.Reads as list-cpus-reads
-use Rattle.cpus.proofs.read_cells.Reads as read-cells-reads
-use Rattle.keys.proofs.index_keys.Reads as index-keys-reads
-use Rattle.tables.proofs.table_fault.Reads as table-fault-reads
+use Rattle.board.proofs.survey.survey.Reads as survey-reads
+use Rattle.rows.proofs.write_rows.Reads as write-rows-reads
 
--- the function's entry; its board, what is found, and the faults from each stage on
-abbrev entry : tie.After-table-fault → tie.Start
-entry c = c .before .before .before .before .before
+-- the function's entry, its board, and the buffer
+abbrev entry : tie.After-survey → tie.Start
+entry c = c .before .before .before .before .before .before .before .before .before
 
-abbrev theBoard : tie.Start → Board
-theBoard s = board (s .args .width) (s .args .nodes .now) (s .args .props .now) (s .args .pool .now)
+abbrev theBoard : tie.After-survey → Board
+theBoard c = let a = entry c .args in board (a .width) (a .nodes .now) (a .props .now) (a .pool .now)
 
-abbrev rows : tie.Start → List ℕ
-rows s = s .args .rows .now
+abbrev rows : tie.After-survey → List ℕ
+rows c = entry c .args .rows .now
 
-abbrev seen : tie.Start → Found
-seen s = found (cpuCount (theBoard s)) (mpidrList (theBoard s)) (sourceOf (theBoard s))
-
-abbrev fromCpus : tie.Start → Fault
-fromCpus s = orElse (firstFault (cpuFault (theBoard s)) (nodeCount (s .args .nodes .now))) (fromMap (theBoard s) (length (rows s)))
-
-abbrev fromCount : tie.Start → Fault
-fromCount s = orElse (told (countFault (cpuCount (theBoard s))) 0) (fromCpus s)
-
-abbrev fromRoot : tie.Start → Fault
-fromRoot s = orElse (told (rootFault (theBoard s)) 0) (fromCount s)
-
-typed : (c : tie.After-table-fault) → Typed (theBoard (entry c))
+typed : (c : tie.After-survey) → Typed (theBoard c)
 typed c =
-    let known = c .before in
+    let known = c .before .before .before .before .before .before in
     record {
-      node-words = λ i. omega (arith, known .before .before .before .shared-slice-known .given i);
-      prop-words = λ i. omega (arith, known .before .before .shared-slice-known2 .given i);
-      bytes = λ i. omega (arith, known .before .shared-slice-known3 .given i);
+      node-words = λ i. omega (arith, known .before .before .shared-slice-known .given i);
+      prop-words = λ i. omega (arith, known .before .shared-slice-known2 .given i);
+      bytes = λ i. omega (arith, known .shared-slice-known3 .given i);
     }
 
--- what the stages ask for is what the contract does
-met : (c : tie.After-table-fault) {r : _} {after : List ℕ} → Outcome (rows (entry c)) (seen (entry c)) (orElse (tableFault (theBoard (entry c))) (fromRoot (entry c))) r after → Met (typed c) (rows (entry c)) r after
-met c h = meets (typed c) (rows (entry c)) (rw (board-stages (theBoard (entry c)) (length (rows (entry c)))) h)
+abbrev found-is : tie.After-survey → Type 0
+found-is c = c .survey .result ≡ surveyOf (theBoard c)
 
--- a number told of place 0
-told-at-zero : (v : ℕ) → 0 ≡ told v 0 .place
-told-at-zero zero = refl
-told-at-zero (suc v) = refl
+-- a survey that told nothing: the counts, and the lists at the front of the arrays
+module _ (c : tie.Else1) where
+  abbrev call : tie.After-survey
+  call = c .before .before
 
--- the tables, where rules 1 to 8 hold
-abbrev at-tables : tie.Else1 → tie.After-table-fault
-at-tables c = c .before .before
+  abbrev b : Board
+  b = theBoard call
 
-no-table-fault : (c : tie.Else1) → tableFault (theBoard (entry (at-tables c))) .number ≡ 0
-no-table-fault c = ap (λ (f : Fault). f .number) (sym (at-tables c .table-fault .ensures)) ∙ c .if1 .left
+  is : found-is call
+  is = call .survey .ensures .0
 
--- the address cells, where rule 9 holds
-abbrev at-cells : tie.Else2 → tie.After-read-cells
-at-cells c = c .before
+  clear : surveyFault b .number ≡ 0
+  clear = none (typed call) (rows call) is (c .if1 .left)
 
-cells-are : (c : tie.Else2) → let b = theBoard (entry (at-tables (at-cells c .before))) in (rootFault b ≡ 0) × (at-cells c .read-cells .result ≡ addressCells b)
-cells-are c =
-    let b = theBoard (entry (at-tables (at-cells c .before))) in
-    let is = at-cells c .read-cells .ensures in
-    let sound = cells-sound b (λ z. c .if2 .left (is ∙ z)) in
-    (sound .0, is ∙ sound .1)
+  lists : Lists b (replicate 256 0) (replicate 256 0) (replicate 256 0) (replicate 256 0) (call .survey .last .1 .1 .1 .1 .0) (call .survey .last .1 .1 .1 .1 .1 .0) (call .survey .last .1 .1 .1 .1 .1 .1 .0) (call .survey .last .1 .1 .1 .1 .1 .1 .1 .0)
+  lists = call .survey .ensures .1 clear
 
-no-root-fault : (c : tie.Else2) → told (rootFault (theBoard (entry (at-tables (at-cells c .before))))) 0 .number ≡ 0
-no-root-fault c = told-number _ 0 ∙ cells-are c .0
+  cpus-are : call .survey .result .cpus ≡ cpuCount b
+  cpus-are = counts (typed call) (rows call) is (c .if1 .left) .0
 
--- the cpu records, where rule 10 holds
-abbrev before-count : tie.After-count-fault → tie.Else2
-before-count c = c .before .before .before
+  cpu-size : call .survey .result .cpus ≡ length (cpuList b)
+  cpu-size = cpus-are ∙ cpu-count b
 
-abbrev start : tie.After-count-fault → tie.Start
-start c = entry (at-tables (at-cells (before-count c) .before))
+  mpidr-size : call .survey .result .cpus ≡ length (mpidrList b)
+  mpidr-size = cpu-size ∙ sym (length-map (cpuList b) _)
 
-counted : (c : tie.After-count-fault) → c .count-fault .result ≡ countFault (cpuCount (theBoard (start c)))
-counted c = c .count-fault .ensures ∙ ap countFault (c .before .list-cpus .ensures .0)
+  leaf-size : call .survey .result .leaves ≡ length (leavesOf b)
+  leaf-size = counts (typed call) (rows call) is (c .if1 .left) .1
 
-few : (c : tie.Else3) → cpuCount (theBoard (start (c .before))) ≤ maxCpus
-few c = count-fits (cpuCount (theBoard (start (c .before)))) (sym (counted (c .before)) ∙ c .if3 .left)
+  named-size : call .survey .result .leaves ≡ length (namedOf b)
+  named-size = leaf-size ∙ sym (length-map (leavesOf b) _)
 
-listed-few : (c : tie.Else3) → length (cpuList (theBoard (start (c .before)))) ≤ maxCpus
-listed-few c = omega (arith, few c, cpu-count (theBoard (start (c .before))))
+  few : length (cpuList b) ≤ length (replicate {A = ℕ} 256 0)
+  few = omega (arith, survey-few b clear .0, cpu-count b, length-replicate {A = ℕ} 256 0)
 
-count-is : (c : tie.Else3) → c .before .before .list-cpus .result ≡ length (cpuList (theBoard (start (c .before))))
-count-is c = c .before .before .list-cpus .ensures .0 ∙ cpu-count (theBoard (start (c .before)))
+  few-mpidrs : length (mpidrList b) ≤ length (replicate {A = ℕ} 256 0)
+  few-mpidrs = omega (arith, few, cpu-size, mpidr-size)
 
-records-are : (c : tie.Else3) → c .before .before .list-cpus .last .1 .1 .0 ≡ over (cpuList (theBoard (start (c .before)))) (replicate 256 0)
-records-are c = c .before .before .list-cpus .ensures .1
+  few-leaves : length (leavesOf b) ≤ length (replicate {A = ℕ} 256 0)
+  few-leaves = omega (arith, survey-few b clear, length-replicate {A = ℕ} 256 0)
 
-table-fault-requires : tie.Need-table-fault-requires
-table-fault-requires c κs = search needs
+  few-named : length (namedOf b) ≤ length (replicate {A = ℕ} 256 0)
+  few-named = omega (arith, few-leaves, leaf-size, named-size)
+
+survey-requires : tie.Need-survey-requires
+survey-requires c κs = search needs
 
 refused-requires : tie.Need-refused-requires
 refused-requires c κs = search needs
@@ -126,97 +103,89 @@ refused-requires c κs = search needs
 returns : tie.Need-returns
 returns c =
     let call = c .before .before .before in
-    let s = entry call in
-    let is = call .table-fault .ensures in
-    met call (tells-first (rows s) (seen s) (tableFault (theBoard s)) (fromRoot s) (c .refused .ensures) (c .before .if1 .taken) (ap (λ (f : Fault). f .number) is) (ap (λ (f : Fault). f .place) is))
-
-read-cells-requires : tie.Need-read-cells-requires
-read-cells-requires c κs = search needs
+    refuses-survey (typed call) (rows call) (call .survey .ensures .0) (c .before .if1 .taken) (c .refused .ensures)
 
 refused-requires-2 : tie.Need-refused-requires-2
 refused-requires-2 c κs = search needs
 
 returns-2 : tie.Need-returns-2
 returns-2 c =
-    let call = c .before .before in
-    let e = call .before in
-    let s = entry (at-tables e) in
-    let nine = cells-broken (theBoard s) (sym (call .read-cells .ensures) ∙ c .before .if2 .taken) in
-    met (at-tables e)
-    (passes (rows s) (seen s) (tableFault (theBoard s)) (fromRoot s) (no-table-fault e)
-    (tells-first (rows s) (seen s) (told (rootFault (theBoard s)) 0) (fromCount s) (c .refused2 .ensures) (λ z. omega arith) (rw nine) (rw nine)))
+    let e = c .before .before in
+    refuses-room (typed (call e)) (rows (call e)) (is e) (e .if1 .left) (omega (arith, c .before .if2 .taken, cpus-are e)) (c .refused2 .ensures)
 
-list-cpus-requires : tie.Need-list-cpus-requires
-list-cpus-requires c κs = search needs
+array-share-prefix-mpidrs : tie.Need-array-share-prefix-mpidrs
+array-share-prefix-mpidrs c = let e = c .before in front-fits _ _ (lists e .mpidrs-laid) (mpidr-size e) (few-mpidrs e)
 
-count-fault-requires : tie.Need-count-fault-requires
-count-fault-requires c κs = search needs
+slice-aggregate-listed : tie.Need-slice-aggregate-listed
+slice-aggregate-listed c = let e = c .before .before in front-size _ _ (lists e .mpidrs-laid) (mpidr-size e) (few-mpidrs e)
 
-refused-requires-3 : tie.Need-refused-requires-3
-refused-requires-3 c κs = search needs
+mask-of-requires : tie.Need-mask-of-requires
+mask-of-requires c κs = search needs
 
-returns-3 : tie.Need-returns-3
-returns-3 c =
-    let call = c .before .before in
-    let e2 = before-count call in
-    let e = at-cells e2 .before in
-    let s = start call in
-    let b = theBoard s in
-    met (at-tables e)
-    (passes (rows s) (seen s) (tableFault b) (fromRoot s) (no-table-fault e)
-    (passes (rows s) (seen s) (told (rootFault b) 0) (fromCount s) (no-root-fault e2)
-    (tells-first (rows s) (seen s) (told (countFault (cpuCount b)) 0) (fromCpus s) (c .refused3 .ensures) (c .before .if3 .taken) (counted call ∙ sym (told-number _ 0)) (told-at-zero (countFault (cpuCount b))))))
+array-share-prefix-cpus : tie.Need-array-share-prefix-cpus
+array-share-prefix-cpus c = let e = c .before .before .before .before .before in front-fits _ _ (lists e .cpus-laid) (cpu-size e) (few e)
 
-index-keys-requires : tie.Need-index-keys-requires
-index-keys-requires c κs = search needs
+slice-aggregate-write-rows : tie.Need-slice-aggregate-write-rows
+slice-aggregate-write-rows c = let e = c .before .before .before .before .before .before in front-size _ _ (lists e .cpus-laid) (cpu-size e) (few e)
 
-array-share-prefix-records : tie.Need-array-share-prefix-records
-array-share-prefix-records c = let e = c .before .before .before in front-fits _ (records-are e) (count-is e) (listed-few e)
+array-share-prefix-leaves : tie.Need-array-share-prefix-leaves
+array-share-prefix-leaves c = let e = c .before .before .before .before .before .before in front-fits _ _ (lists e .leaves-laid) (leaf-size e) (few-leaves e)
 
-slice-aggregate-read-records : tie.Need-slice-aggregate-read-records
-slice-aggregate-read-records c = let e = c .before .before .before .before in front-size _ (records-are e) (count-is e) (listed-few e)
+slice-aggregate-write-rows-2 : tie.Need-slice-aggregate-write-rows-2
+slice-aggregate-write-rows-2 c = let e = c .before .before .before .before .before .before .before in front-size _ _ (lists e .leaves-laid) (leaf-size e) (few-leaves e)
 
-read-records-requires : tie.Need-read-records-requires
-read-records-requires c κs = search needs
+array-share-prefix-named : tie.Need-array-share-prefix-named
+array-share-prefix-named c = let e = c .before .before .before .before .before .before .before in front-fits _ _ (lists e .named-laid) (named-size e) (few-named e)
+
+slice-aggregate-write-rows-3 : tie.Need-slice-aggregate-write-rows-3
+slice-aggregate-write-rows-3 c = let e = c .before .before .before .before .before .before .before .before in front-size _ _ (lists e .named-laid) (named-size e) (few-named e)
+
+write-rows-requires : tie.Need-write-rows-requires
+write-rows-requires c κs =
+    let hashed = c .before .before .before .before in
+    let e = hashed .before .before .before .before in
+    let leaves = ap length (front-is _ _ (lists e .leaves-laid) (leaf-size e) (few-leaves e)) in
+    (omega (arith, leaves, survey-few (b e) (clear e) .1, hashed .before .before .before .if2 .left, cpus-are e), hash-made _ (hashed .hash-of-mask .ensures))
+
+hash-of-mask-requires : tie.Need-hash-of-mask-requires
+hash-of-mask-requires c κs = search needs
 
 same-length : tie.Need-same-length
 same-length c = search needs
 
-returns-4 : tie.Need-returns-4
-returns-4 c =
-    let read = c .before .before in
-    let indexed = read .before .before .before .before in
-    let e3 = indexed .before .before in
-    let e2 = before-count (e3 .before) in
-    let e = at-cells e2 .before in
-    let s = start (e3 .before) in
-    let b = theBoard s in
-    let well : WellFormed b = table-sound b .0 (no-table-fault e) in
-    let listed = front-is _ (records-are e3) (count-is e3) (listed-few e3) in
-    let found-all = rw (indexed .index-keys .ensures, cells-are e2 .1, listed, records-stages b well (few e3) (length (rows s))) at (read .read-records .ensures) in
-    met (at-tables e)
-    (passes (rows s) (seen s) (tableFault b) (fromRoot s) (no-table-fault e)
-    (passes (rows s) (seen s) (told (rootFault b) 0) (fromCount s) (no-root-fault e2)
-    (passes (rows s) (seen s) (told (countFault (cpuCount b)) 0) (fromCpus s) (told-number _ 0 ∙ sym (counted (e3 .before)) ∙ e3 .if3 .left)
-    (same-outcome (rows s) _ (seen s) (fromCpus s) (λ z. records-found b well (few e3) (or-clear _ _ z .0)) found-all))))
+returns-3 : tie.Need-returns-3
+returns-3 c =
+    let wrote = c .before .before in
+    let hashed = wrote .before .before .before .before .before in
+    let e = hashed .before .before .before .before in
+    let mpidrs = front-is _ _ (lists e .mpidrs-laid) (mpidr-size e) (few-mpidrs e) in
+    let cpus = front-is _ _ (lists e .cpus-laid) (cpu-size e) (few e) in
+    let leaves = front-is _ _ (lists e .leaves-laid) (leaf-size e) (few-leaves e) in
+    let named = front-is _ _ (lists e .named-laid) (named-size e) (few-named e) in
+    let hash = hashed .hash-of-mask .ensures ∙ ap hashOfMask (hashed .before .mask-of .ensures ∙ ap maskOf mpidrs) in
+    accepts (typed (call e)) (rows (call e)) (is e) (e .if1 .left) (omega (arith, hashed .before .before .before .if2 .left, cpus-are e))
+    (cpus-are e) hash
+    (wrote .write-rows .ensures ∙ rw (mpidrs, cpus, leaves, named, hash))
 
 pub read-tables-spec : {M : Type 1} → statement M
 read-tables-spec =
     tie.close
     (tie.spec
-    table-fault-requires
+    survey-requires
     refused-requires
     returns
-    read-cells-requires
     refused-requires-2
     returns-2
-    list-cpus-requires
-    count-fault-requires
-    refused-requires-3
-    returns-3
-    index-keys-requires
-    array-share-prefix-records
-    slice-aggregate-read-records
-    read-records-requires
+    array-share-prefix-mpidrs
+    slice-aggregate-listed
+    mask-of-requires
+    hash-of-mask-requires
+    array-share-prefix-cpus
+    slice-aggregate-write-rows
+    array-share-prefix-leaves
+    slice-aggregate-write-rows-2
+    array-share-prefix-named
+    slice-aggregate-write-rows-3
+    write-rows-requires
     same-length
-    returns-4)
+    returns-3)

@@ -5,7 +5,6 @@ use Prim.Native.Nat.{_+_, _*_, _-_, _^_, _≤_, _<_}
 use native.Mathlib.Omega.{arith}
 use lib.ListN.{length, drop, getD}
 use borrow.Author.Needs.{needs}
-use borrow.Author.Tests.{le-leb, lt-leb}
 use borrow.Rule.Slice.PartMut.{same-len-mid}
 use Rattle.tables.proofs.CodePool.{word-zero}
 use Rattle.topology.specs.Path.{positionOf}
@@ -16,24 +15,24 @@ use Rattle.rows.proofs.write.write_rows.Statement.{statement}
 use Rattle.rows.proofs.write.write_rows.Tie as tie
 
 abbrev Inv-loop : tie.InvT-loop
-Inv-loop rows₀ nodes pool cpus mpidrs leaves named mask count hash parent₀ above₀ k₀ rows parent above k =
+Inv-loop rows₀ nodes pool cpus mpidrs leaves named hash count parent₀ above₀ k₀ rows parent above k =
     (k ≤ count)
     × (rowSize * count ≤ length rows₀)
     × (length rows ≡ length rows₀)
-    × (rows ≡ rowsBelow (source nodes pool cpus mpidrs leaves named mask) k ++ drop (rowSize * k) rows₀)
+    × (rows ≡ rowsBelow (source nodes pool cpus mpidrs leaves named hash) k ++ drop (rowSize * k) rows₀)
     × (above ≡ positionOf nodes pool parent)
 
 abbrev μ-loop : tie.MeasureT-loop
-μ-loop rows₀ nodes pool cpus mpidrs leaves named mask count hash parent₀ above₀ k₀ rows parent above k = count - k
+μ-loop rows₀ nodes pool cpus mpidrs leaves named hash count parent₀ above₀ k₀ rows parent above k = count - k
 
 -- the start, and what the rows are made of
 abbrev begun : tie.At-loop Inv-loop μ-loop → tie.Start Inv-loop μ-loop
-begun c = c .before .before .before .before .before .before .before .before .before .before .before
+begun c = c .before .before .before .before .before .before .before .before .before
 
 abbrev from : tie.At-loop Inv-loop μ-loop → Source
 from c =
     let a = begun c .args in
-    source (a .nodes .now) (a .pool .now) (a .cpus .now) (a .mpidrs .now) (a .leaves .now) (a .named .now) (a .mask)
+    source (a .nodes .now) (a .pool .now) (a .cpus .now) (a .mpidrs .now) (a .leaves .now) (a .named .now) (a .hash)
 
 -- the turn in which a row is made
 abbrev turn : tie.After-leaf-row Inv-loop μ-loop → tie.In-loop Inv-loop μ-loop
@@ -43,7 +42,7 @@ turn c = c .before .before .before .before .before
 made : (c : tie.After-leaf-row Inv-loop μ-loop) → let at = turn c .before in c .leaf-row .result ≡ rowNumber (from at) (at .loop .k)
 made c =
     let at = turn c .before in
-    from-number (from at) (at .loop .k) (c .leaf-row .ensures) (c .before .record-at .ensures) (at .before .before .hash-of-mask .ensures)
+    from-number (from at) (at .loop .k) (c .leaf-row .ensures) (c .before .record-at .ensures) (begun at .pre .1)
 
 -- it has its place in the buffer, and the buffer in memory
 place :
@@ -55,16 +54,6 @@ place c =
     let at = c .before in
     let inv = at .loop .inv in
     (c .loop-test .taken, omega (arith, inv .1, inv .2, c .loop-test .taken), omega (arith, begun at .good .0 .1, inv .2))
-
-returns : tie.Need-returns Inv-loop μ-loop
-unfolding written
-returns c =
-    let a = c .before .before .before .before .before .before .before .before .args in
-    let short = lt-leb (rowSize * length (a .leaves .now)) (length (a .rows .now)) (omega arith) in
-    (rw short, rw short)
-
-hash-of-mask-requires : tie.Need-hash-of-mask-requires Inv-loop μ-loop
-hash-of-mask-requires c κs = search needs
 
 position-of-requires : tie.Need-position-of-requires Inv-loop μ-loop
 position-of-requires c κs = search needs
@@ -137,14 +126,12 @@ loop-again c =
 same-length : tie.Need-same-length Inv-loop μ-loop
 same-length c = search needs
 
-returns-2 : tie.Need-returns-2 Inv-loop μ-loop
+returns : tie.Need-returns Inv-loop μ-loop
 unfolding written
-returns-2 c =
+returns c =
     let at = c .before in
-    let a = begun at .args in
-    let whole : at .loop .k ≡ length (a .leaves .now) = omega arith in
-    let room = le-leb (rowSize * length (a .leaves .now)) (length (a .rows .now)) (at .loop .inv .1) in
-    (rw room, rw room (rw whole at (at .loop .inv .3)))
+    let whole : at .loop .k ≡ length (begun at .args .leaves .now) = omega arith in
+    rw whole at (at .loop .inv .3)
 
 pub write-rows-spec : {M : Type 1} → statement M
 write-rows-spec =
@@ -152,8 +139,6 @@ write-rows-spec =
     (tie.spec
     Inv-loop
     μ-loop
-    returns
-    hash-of-mask-requires
     position-of-requires
     loop-holds
     mul-leaf
@@ -172,4 +157,4 @@ write-rows-spec =
     loop-less
     loop-again
     same-length
-    returns-2)
+    returns)

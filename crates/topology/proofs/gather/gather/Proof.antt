@@ -78,7 +78,7 @@ returns c =
     let at = call .before .before .before .before in
     let g = at .loop .inv .1 in (
       c .refuse .ensures ∙ told-scan _ _ _ g (omega arith) (fault call) (c .before .if1 .taken),
-      told-left _ _ _ g (omega arith) (fault call) (c .before .if1 .taken) (entry at .pre .0),
+      told-left _ _ _ g (omega arith) (fault call) (c .before .if1 .taken),
     )
 
 add-i : tie.Need-add-i Inv-loop μ-loop
@@ -133,7 +133,7 @@ same-length-2 c = same-size (entry (c .before)) (c .before .loop .inv .1 .marks-
 returns-2 : tie.Need-returns-2 Inv-loop μ-loop
 returns-2 c =
     let g = c .before .loop .inv .1 in
-    (all-scan _ _ _ g (omega arith), all-left _ _ _ g (omega arith) (entry (c .before) .pre .0))
+    (all-scan _ _ _ g (omega arith), all-left _ _ _ g (omega arith))
 
 pub gather-spec : {M : Type 1} → statement M
 gather-spec =

@@ -1,23 +1,15 @@
--- `read_tree` meets its contract: the guard, the pass over the records, the pass over the cpu records. Assumes nothing.
+-- `read_tree` meets its contract: the pass over the records, the pass over the cpu records. Assumes nothing.
 use mathlib.Core.Path.{_∙_}
 use mathlib.Core.List.{List}
 use Prim.Native.Nat.{ℕ}
 use borrow.Author.Needs.{needs}
-use Rattle.topology.proofs.ScanLaws.{many-told, many-leaves, many-named, first-told, last-is, last-told, last-clear}
+use Rattle.topology.proofs.ScanLaws.{first-told, last-is, last-told, last-clear}
 use Rattle.topology.proofs.scan.read_tree.Statement.{statement}
 use Rattle.topology.proofs.scan.read_tree.Tie as tie
 
 -- the list of cpu records
 abbrev records : tie.After-gather → List ℕ
-records c = c .before .before .before .before .before .before .before .before .before .before .args .cpu-records .now
-
-refuse-requires : tie.Need-refuse-requires
-refuse-requires c κs = search needs
-
-returns : tie.Need-returns
-returns c =
-    let lt = c .before .if1 .taken in
-    (c .refuse .ensures ∙ many-told _ _ lt, (many-leaves _ lt _, many-named _ lt _))
+records c = c .before .before .before .before .before .before .before .before .before .args .cpu-records .now
 
 slice-aggregate-gather : tie.Need-slice-aggregate-gather
 slice-aggregate-gather c = search needs
@@ -25,11 +17,11 @@ slice-aggregate-gather c = search needs
 gather-requires : tie.Need-gather-requires
 gather-requires c κs = search needs
 
-returns-2 : tie.Need-returns-2
-returns-2 c =
+returns : tie.Need-returns
+returns c =
     let call = c .before .before .before in
     let pass = call .gather .ensures in
-    (first-told _ _ (call .before .before .before .before .if1 .left) (pass .0) (c .if2 .taken), (pass .1 .leaves-left, pass .1 .named-left))
+    (first-told _ _ (pass .0) (c .if1 .taken), (pass .1 .leaves-left, pass .1 .named-left))
 
 slice-aggregate-first-unmapped : tie.Need-slice-aggregate-first-unmapped
 slice-aggregate-first-unmapped c = search needs
@@ -37,40 +29,36 @@ slice-aggregate-first-unmapped c = search needs
 first-unmapped-requires : tie.Need-first-unmapped-requires
 first-unmapped-requires c κs = search needs
 
-refuse-requires-2 : tie.Need-refuse-requires-2
-refuse-requires-2 c κs = search needs
+refuse-requires : tie.Need-refuse-requires
+refuse-requires c κs = search needs
 
-returns-3 : tie.Need-returns-3
-returns-3 c =
+returns-2 : tie.Need-returns-2
+returns-2 c =
     let last = c .before .before .before in
     let test = last .before .before in
     let call = test .before .before .before in
-    let few = call .before .before .before .before .if1 .left in
     let pass = call .gather .ensures in
-    let is = last-is _ (records call) few (pass .0) (test .if2 .left) (pass .1 .marks-left) (last .first-unmapped .ensures) in
-    (c .refuse2 .ensures ∙ last-told _ (records call) few (pass .0) (test .if2 .left) is (c .before .if3 .taken), (pass .1 .leaves-left, pass .1 .named-left))
+    let is = last-is _ (records call) (pass .0) (test .if1 .left) (pass .1 .marks-left) (last .first-unmapped .ensures) in
+    (c .refuse .ensures ∙ last-told _ (records call) (pass .0) (test .if1 .left) is (c .before .if2 .taken), (pass .1 .leaves-left, pass .1 .named-left))
 
-returns-4 : tie.Need-returns-4
-returns-4 c =
+returns-3 : tie.Need-returns-3
+returns-3 c =
     let last = c .before .before in
     let test = last .before .before in
     let call = test .before .before .before in
-    let few = call .before .before .before .before .if1 .left in
     let pass = call .gather .ensures in
-    let is = last-is _ (records call) few (pass .0) (test .if2 .left) (pass .1 .marks-left) (last .first-unmapped .ensures) in
-    (last-clear _ (records call) few (pass .0) (test .if2 .left) is (c .if3 .left), (pass .1 .leaves-left, pass .1 .named-left))
+    let is = last-is _ (records call) (pass .0) (test .if1 .left) (pass .1 .marks-left) (last .first-unmapped .ensures) in
+    (last-clear _ (records call) (pass .0) (test .if1 .left) is (c .if2 .left), (pass .1 .leaves-left, pass .1 .named-left))
 
 pub read-tree-spec : {M : Type 1} → statement M
 read-tree-spec =
     tie.close
     (tie.spec
-    refuse-requires
-    returns
     slice-aggregate-gather
     gather-requires
-    returns-2
+    returns
     slice-aggregate-first-unmapped
     first-unmapped-requires
-    refuse-requires-2
-    returns-3
-    returns-4)
+    refuse-requires
+    returns-2
+    returns-3)

@@ -1,4 +1,4 @@
--- `gather` meets its contract: the pass holds before each record. Assumes nothing.
+-- `read_numbers` meets its contract: the pass holds before each record. Assumes nothing.
 use mathlib.Core.Path.{_≡_, refl, sym}
 use Prim.Native.Nat.{_-_, _≤_}
 use native.Mathlib.Omega.{arith}
@@ -7,8 +7,8 @@ use lib.Seq.{length-take-le}
 use Rattle.cpus.specs.Gather.{readingAt, repeatRule}
 use Rattle.cpus.proofs.GatherLaws.{Pass, pass-start, pass-length, pass-next, pass-told, pass-end}
 use borrow.Author.Needs.{needs}
-use Rattle.cpus.proofs.gather.gather.Statement.{statement}
-use Rattle.cpus.proofs.gather.gather.Tie as tie
+use Rattle.cpus.proofs.gather.read_numbers.Statement.{statement}
+use Rattle.cpus.proofs.gather.read_numbers.Tie as tie
 
 abbrev Inv-loop : tie.InvT-loop
 Inv-loop wanted props pool keys records values₀ k₀ values k =
@@ -74,8 +74,8 @@ same-length-2 c = search needs
 returns-2 : tie.Need-returns-2 Inv-loop μ-loop
 returns-2 c = pass-end _ _ _ _ _ (c .before .loop .inv .2) (omega arith)
 
-pub gather-spec : {M : Type 1} → statement M
-gather-spec =
+pub read-numbers-spec : {M : Type 1} → statement M
+read-numbers-spec =
     tie.close
     (tie.spec
     Inv-loop

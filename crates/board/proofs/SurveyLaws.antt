@@ -1,0 +1,129 @@
+-- The survey stops at the first fault: its stages, and what those of the code tell of a board. Assumes nothing.
+use mathlib.Core.Path.{_≡_, sym, ap, _∙_}
+use mathlib.Core.List.{List, map}
+use Prim.Native.Nat.{ℕ, _≤_}
+use native.Mathlib.Omega.{arith}
+use lib.ListN.{length, replicate, length-map}
+use borrow.Author.Tests.{eq-eqb, ne-eqb}
+use Rattle.laws.specs.declared.Fault.{Fault}
+use Rattle.laws.specs.Fault.{told, orElse}
+use Rattle.laws.proofs.FaultLaws.{or-first}
+use Rattle.laws.proofs.OrElseLaws.{or-clear, or-assoc}
+use Rattle.tables.specs.Board.{Board}
+use Rattle.tables.specs.Property.{lookup}
+use Rattle.tables.specs.Rules.{WellFormed}
+use Rattle.tables.specs.Check.{tableFault}
+use Rattle.tables.proofs.WellFormedLaws.{wf-nodes, wf-props, wf-prop-node}
+use Rattle.keys.specs.declared.Key.{Key}
+use Rattle.keys.specs.declared.Key.the-variants.{Cpu}
+use Rattle.keys.specs.Key.{keyName}
+use Rattle.keys.specs.Index.{keysOf, keyAt}
+use Rattle.keys.proofs.IndexLaws.{index-finds}
+use Rattle.cpus.specs.declared.Cell.{Cell}
+use Rattle.cpus.specs.declared.Reading.{Reading}
+use Rattle.cpus.specs.declared.Wanted.{Wanted}
+use Rattle.cpus.specs.Rules.{maxCpus}
+use Rattle.cpus.specs.Check.{rootFault, addressCells, cpuCount, cpuList, countFault, phandleReadings, cpuFault, cpusFault, phandlesFault, phandleList, mpidrList}
+use Rattle.cpus.specs.Gather.{readingAt, readingOf, firstRecord, numbersOver}
+use Rattle.cpus.proofs.CpuMeans.{cpu-count}
+use Rattle.cpus.proofs.ScanLaws.{same-reading, numbers-clear}
+use Rattle.topology.specs.Find.{mapOf, mapFault}
+use Rattle.topology.specs.Check.{keyCells}
+use Rattle.topology.specs.Scan.{tree, leavesFault, treeOf, leavesOf}
+use Rattle.topology.proofs.CellLaws.{same-cells}
+use Rattle.topology.proofs.ScanLaws.{leaves-few}
+use Rattle.laws.specs.Listed.{over}
+use Rattle.board.specs.declared.Surveyed.{Surveyed}
+use Rattle.board.specs.Survey.{surveyFault, stopped, surveyOf}
+use Rattle.board.proofs.LayerLaws.{few-cpus}
+
+-- the faults from each stage on
+module _ (b : Board) where
+  abbrev pub mapStage : Fault
+  mapStage = mapFault (b .nodes) (b .pool)
+
+  abbrev pub fromPhandles : Fault
+  fromPhandles = orElse (phandlesFault b) (leavesFault (treeOf b) (cpuList b))
+
+  abbrev pub fromMap : Fault
+  fromMap = orElse mapStage fromPhandles
+
+  abbrev pub fromCpus : Fault
+  fromCpus = orElse (cpuFault b) fromMap
+
+  abbrev pub fromCount : Fault
+  fromCount = orElse (told (countFault (cpuCount b)) 0) fromCpus
+
+  abbrev pub fromRoot : Fault
+  fromRoot = orElse (told (rootFault b) 0) fromCount
+
+  pub survey-stages : surveyFault b ≡ orElse (tableFault b) fromRoot
+  unfolding surveyFault cpusFault
+  survey-stages = simp or-assoc
+
+  -- what the contract asks where a fault is told, and where none is
+  module _ {r : Surveyed} {A : Type 0} where
+    pub tells : {f : Fault} {n p : ℕ} → surveyFault b ≡ f → r ≡ stopped n p → (n ≡ 0 → ⊥) → n ≡ f .number → p ≡ f .place → (r ≡ surveyOf b) × (surveyFault b .number ≡ 0 → A)
+    unfolding surveyOf
+    tells {f} e is ne en ep =
+        let some : surveyFault b .number ≡ 0 → ⊥ = λ z. ne (en ∙ ap (λ (a : Fault). a .number) (sym e) ∙ z) in
+        (rw (ne-eqb (surveyFault b .number) 0 some) (is ∙ rw (e, en, ep)), λ z. absurd (some z))
+
+    pub tells-first : {n p : ℕ} (f rest : Fault) → surveyFault b ≡ orElse f rest → r ≡ stopped n p → (n ≡ 0 → ⊥) → n ≡ f .number → p ≡ f .place → (r ≡ surveyOf b) × (surveyFault b .number ≡ 0 → A)
+    tells-first f rest e is ne en ep = tells (e ∙ or-first f rest (λ z. ne (en ∙ z))) is ne en ep
+
+  pub clears :
+      {cpus leaves : ℕ} {A : Type 0} →
+      surveyFault b .number ≡ 0 →
+      cpus ≡ cpuCount b →
+      leaves ≡ length (leavesOf b) →
+      A →
+      (record { number = 0; place = 0; cpus = cpus; leaves = leaves } ≡ surveyOf b) × (surveyFault b .number ≡ 0 → A)
+  unfolding surveyOf
+  clears z e g a = (rw (eq-eqb (surveyFault b .number) 0 z, e, g), λ _. a)
+
+-- the table of keys of a board
+abbrev pub boardKeys : Board → List ℕ
+boardKeys b = keysOf (replicate 4096 0) (b .props) (b .pool)
+
+-- a board with well-formed tables; what was read before a stage
+module _ (b : Board) (well : WellFormed b) {keys records : List ℕ} (keys-are : keys ≡ boardKeys b) (records-are : records ≡ cpuList b) where
+  finds : (i : ℕ) (key : Key) → keyAt keys i key ≡ lookup (b .props) (b .pool) i (keyName key)
+  finds =
+      rw keys-are
+      (index-finds (b .props) (b .pool) (wf-props well .0)
+      (λ k lt. omega (arith, wf-prop-node well k lt, wf-nodes well .1)))
+
+  -- rules 11 to 13, and rule 17: the readings by the table of keys and the records listed
+  module _ {asked wanted : Wanted} (asked-is : asked ≡ wanted) (rule : ℕ) where
+    abbrev here : ℕ → Reading
+    here = readingAt asked (b .props) (b .pool) keys
+
+    abbrev there : ℕ → Reading
+    there = readingOf wanted (b .props) (b .pool)
+
+    readings : here ≡ there
+    readings = rw asked-is (same-reading wanted (b .props) (b .pool) keys finds)
+
+    pub numbers-stage : firstRecord here rule records ≡ firstRecord there rule (cpuList b)
+    numbers-stage = rw (readings, records-are)
+
+    pub numbers-found : (before : List ℕ) → firstRecord there rule (cpuList b) .number ≡ 0 → numbersOver here rule records before ≡ over (map (λ i. there i .value) (cpuList b)) before
+    numbers-found before z = rw (readings, records-are) (numbers-clear there rule (cpuList b) before z)
+
+  -- rules 18 to 26
+  pub tree-is :
+      {root : ℕ} {phandles : List ℕ} →
+      root ≡ mapOf (b .nodes) (b .pool) →
+      phandles ≡ phandleList b →
+      tree (b .nodes) (keyCells (b .props) (b .pool) keys) (b .pool) root phandles ≡ treeOf b
+  tree-is root-is phandles-are = rw (root-is, phandles-are, same-cells (b .props) (b .pool) keys (λ i. finds i Cpu))
+
+-- where the survey tells nothing, there are few cpu records, and no more leaves than these
+pub survey-few : (b : Board) → surveyFault b .number ≡ 0 → (cpuCount b ≤ maxCpus) × (length (leavesOf b) ≤ cpuCount b)
+unfolding surveyFault
+survey-few b z =
+    let late = or-clear (tableFault b) _ z .1 in
+    let tree-clear = or-clear (phandlesFault b) _ (or-clear (mapStage b) _ (or-clear (cpusFault b) _ late .1) .1) .1 in
+    let leaves = leaves-few (treeOf b) (cpuList b) tree-clear in
+    (few-cpus b (or-clear (cpusFault b) _ late .0), omega (arith, leaves, length-map (cpuList b) (λ i. phandleReadings b i .value), cpu-count b))

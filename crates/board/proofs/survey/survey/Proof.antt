@@ -1,0 +1,416 @@
+-- `survey` stops at the first fault of rules 1 to 26, and leaves its lists where there is none. Assumes nothing.
+use mathlib.Core.Path.{_≡_, refl, sym, ap, ap₂, _∙_}
+use mathlib.Core.List.{List, map}
+use Prim.Native.Nat.{ℕ, zero, suc, _≤_}
+use native.Mathlib.Omega.{arith}
+use lib.ListN.{length, take, replicate, length-map, length-replicate}
+use borrow.Author.Tests.{eq-eqb}
+use Rattle.laws.specs.declared.Fault.{Fault}
+use Rattle.laws.specs.Fault.{told}
+use Rattle.laws.specs.Listed.{over}
+use Rattle.laws.proofs.FaultLaws.{or-second}
+use Rattle.laws.proofs.OrElseLaws.{told-number}
+use Rattle.laws.proofs.OverLaws.{over-length}
+use Rattle.tables.specs.Board.{Board, board}
+use Rattle.tables.specs.Rules.{WellFormed}
+use Rattle.tables.specs.Check.{tableFault}
+use Rattle.tables.proofs.RuleLaws.{table-sound}
+use Rattle.cpus.specs.Rules.{maxCpus}
+use Rattle.cpus.specs.Check.{rootFault, addressCells, cpuCount, cpuList, countFault, cpuFault, phandlesFault, phandleList, mpidrList}
+use Rattle.cpus.specs.declared.Wanted.the-variants.{Mpidrs, Phandles}
+use Rattle.cpus.proofs.CpuMeans.{cpu-count}
+use Rattle.cpus.proofs.RootLaws.{count-fits, cells-broken, cells-sound}
+use Rattle.topology.specs.declared.MapScan.{MapScan}
+use Rattle.topology.specs.declared.TreeScan.{TreeScan}
+use Rattle.topology.specs.Find.{mapOf}
+use Rattle.topology.specs.Check.{keyCells}
+use Rattle.topology.specs.Scan.{Tree, tree, leavesFault, treeScan, leavesOver, namedOver, treeOf, leavesOf, namedOf}
+use Rattle.topology.proofs.ScanLaws.{leaves-listed, named-listed}
+use Rattle.board.specs.Survey.{surveyFault, surveyOf}
+use Rattle.board.proofs.FrontLaws.{front-fits, front-size, front-is}
+use Rattle.board.proofs.ReadLaws.{map-number, map-place, map-root}
+use Rattle.board.proofs.SurveyLaws.{mapStage, fromPhandles, fromMap, fromCpus, fromCount, fromRoot, survey-stages, tells, tells-first, clears, numbers-stage, numbers-found, tree-is}
+use borrow.Author.Needs.{needs}
+use Rattle.board.proofs.survey.survey.Statement.{statement}
+use Rattle.board.proofs.survey.survey.Tie as tie
+use Rattle.board.proofs.survey.survey.Reads as reads
+use Rattle.board.proofs.survey.survey.Lts as lts
+use Rattle.board.proofs.survey.stop.Reads as stop-reads
+use Rattle.cpus.proofs.count_fault.Reads as count-fault-reads
+use Rattle.cpus.proofs.list_cpus.Reads as list-cpus-reads
+use Rattle.cpus.proofs.read_cells.Reads as read-cells-reads
+use Rattle.cpus.proofs.read_numbers.Reads as read-numbers-reads
+use Rattle.keys.proofs.index_keys.Reads as index-keys-reads
+use Rattle.tables.proofs.table_fault.Reads as table-fault-reads
+use Rattle.topology.proofs.find_map.Reads as find-map-reads
+use Rattle.topology.proofs.read_tree.Reads as read-tree-reads
+
+-- the board at each call; the stages before it told nothing
+abbrev b1 : tie.After-table-fault → Board
+b1 c = let a = c .before .before .before .before .args in board (a .width) (a .nodes .now) (a .props .now) (a .pool .now)
+
+abbrev b2 : tie.Else1 → Board
+b2 c = b1 (c .before .before)
+
+abbrev b3 : tie.Else2 → Board
+b3 c = b2 (c .before .before)
+
+abbrev b4 : tie.After-count-fault → Board
+b4 c = b3 (c .before .before .before)
+
+abbrev at-count : tie.After-read-numbers → tie.Else3
+at-count c = c .before .before .before .before .before .before .before .before
+
+abbrev b5 : tie.After-read-numbers → Board
+b5 c = b4 (at-count c .before)
+
+abbrev b6 : tie.After-find-map → Board
+b6 c = b5 (c .before .before .before)
+
+abbrev b7 : tie.After-read-numbers2 → Board
+b7 c = b6 (c .before .before .before .before .before)
+
+abbrev b8 : tie.After-read-tree → Board
+b8 c = b7 (c .before .before .before .before .before .before .before .before)
+
+abbrev start : tie.After-count-fault → tie.Start
+start c = c .before .before .before .before .before .before .before .before .before .before .before
+
+-- rules 1 to 8
+clear-tables : (c : tie.Else1) → tableFault (b2 c) .number ≡ 0
+clear-tables c = ap (λ (f : Fault). f .number) (sym (c .before .before .table-fault .ensures)) ∙ c .if1 .left
+
+well : (c : tie.Else1) → WellFormed (b2 c)
+well c = table-sound (b2 c) .0 (clear-tables c)
+
+rest-1 : (c : tie.Else1) → surveyFault (b2 c) ≡ fromRoot (b2 c)
+rest-1 c = survey-stages (b2 c) ∙ or-second (tableFault (b2 c)) _ (clear-tables c)
+
+-- rule 9
+cells-are : (c : tie.Else2) → (rootFault (b3 c) ≡ 0) × (c .before .read-cells .result ≡ addressCells (b3 c))
+cells-are c =
+    let is = c .before .read-cells .ensures in
+    let sound = cells-sound (b3 c) (λ z. c .if2 .left (is ∙ z)) in
+    (sound .0, is ∙ sound .1)
+
+rest-2 : (c : tie.Else2) → surveyFault (b3 c) ≡ fromCount (b3 c)
+rest-2 c = rest-1 (c .before .before) ∙ or-second (told (rootFault (b3 c)) 0) _ (told-number _ 0 ∙ cells-are c .0)
+
+-- rule 10
+counted : (c : tie.After-count-fault) → c .count-fault .result ≡ countFault (cpuCount (b4 c))
+counted c = c .count-fault .ensures ∙ ap countFault (c .before .list-cpus .ensures .0)
+
+rest-3 : (c : tie.Else3) → surveyFault (b4 (c .before)) ≡ fromCpus (b4 (c .before))
+rest-3 c =
+    let b = b4 (c .before) in
+    rest-2 (c .before .before .before .before) ∙ or-second (told (countFault (cpuCount b)) 0) _ (told-number _ 0 ∙ sym (counted (c .before)) ∙ c .if3 .left)
+
+few : (c : tie.Else3) → cpuCount (b4 (c .before)) ≤ maxCpus
+few c = count-fits (cpuCount (b4 (c .before))) (sym (counted (c .before)) ∙ c .if3 .left)
+
+listed-few : (c : tie.Else3) → length (cpuList (b4 (c .before))) ≤ maxCpus
+listed-few c = omega (arith, few c, cpu-count (b4 (c .before)))
+
+count-is : (c : tie.Else3) → c .before .before .list-cpus .result ≡ length (cpuList (b4 (c .before)))
+count-is c = c .before .before .list-cpus .ensures .0 ∙ cpu-count (b4 (c .before))
+
+-- the cpu records, as the lent array has them
+module _ (c : tie.After-whole2) where
+  abbrev s : tie.Start
+  s = start (c .before .before .before)
+
+  abbrev count : ℕ
+  count = c .before .before .before .before .list-cpus .result
+
+  abbrev array : List ℕ
+  array = c .before .before .before .before .list-cpus .last .1 .1 .0
+
+  laid : array ≡ over (cpuList (b4 (c .before .before .before))) (s .args .cpus .now)
+  laid = c .before .before .before .before .list-cpus .ensures .1
+
+  room : length (cpuList (b4 (c .before .before .before))) ≤ length (s .args .cpus .now)
+  room = omega (arith, listed-few (c .before .before), c .whole2 .given .0, rw over-length at (ap length laid))
+
+  listed-size : count ≡ length (take count array)
+  listed-size = front-size _ _ laid (count-is (c .before .before)) room
+
+  listed-is : take count array ≡ cpuList (b4 (c .before .before .before))
+  listed-is = front-is _ _ laid (count-is (c .before .before)) room
+
+-- rules 11 to 13
+module _ (c : tie.After-read-numbers) where
+  abbrev indexed : tie.After-index-keys
+  indexed = c .before .before .before
+
+  abbrev wholes : tie.After-whole2
+  wholes = indexed .before .before .before
+
+  well-5 : WellFormed (b5 c)
+  well-5 = well (at-count c .before .before .before .before .before .before)
+
+  abbrev kept-9 : tie.Else2
+  kept-9 = at-count c .before .before .before .before
+
+  mpidr-fault : c .read-numbers .result ≡ cpuFault (b5 c)
+  mpidr-fault = c .read-numbers .ensures .0 ∙ numbers-stage (b5 c) well-5 (indexed .index-keys .ensures) (listed-is wholes) (ap Mpidrs (cells-are kept-9 .1)) 13
+
+  mpidrs-laid : cpuFault (b5 c) .number ≡ 0 → c .read-numbers .last .1 .1 .1 .1 .1 .0 ≡ over (mpidrList (b5 c)) (start (at-count c .before) .args .mpidrs .now)
+  mpidrs-laid z = c .read-numbers .ensures .1 ∙ numbers-found (b5 c) well-5 (indexed .index-keys .ensures) (listed-is wholes) (ap Mpidrs (cells-are kept-9 .1)) 13 _ z
+
+clear-mpidrs : (c : tie.Else4) → cpuFault (b5 (c .before .before)) .number ≡ 0
+clear-mpidrs c = ap (λ (f : Fault). f .number) (sym (mpidr-fault (c .before .before))) ∙ c .if4 .left
+
+rest-4 : (c : tie.Else4) → surveyFault (b5 (c .before .before)) ≡ fromMap (b5 (c .before .before))
+rest-4 c = rest-3 (at-count (c .before .before)) ∙ or-second (cpuFault (b5 (c .before .before))) _ (clear-mpidrs c)
+
+-- rules 15 and 16
+map-fault : (c : tie.After-find-map) → c .find-map .result .number ≡ mapStage (b6 c) .number
+map-fault c = ap (λ (r : MapScan). r .number) (c .find-map .ensures) ∙ map-number (b6 c .nodes) (b6 c .pool)
+
+clear-map : (c : tie.Else5) → mapStage (b6 (c .before .before)) .number ≡ 0
+clear-map c = sym (map-fault (c .before .before)) ∙ c .if5 .left
+
+rest-5 : (c : tie.Else5) → surveyFault (b6 (c .before .before)) ≡ fromPhandles (b6 (c .before .before))
+rest-5 c = rest-4 (c .before .before .before) ∙ or-second (mapStage (b6 (c .before .before))) _ (clear-map c)
+
+-- rule 17
+module _ (c : tie.After-read-numbers2) where
+  abbrev read : tie.After-read-numbers
+  read = c .before .before .before .before .before .before .before .before
+
+  phandle-fault : c .read-numbers2 .result ≡ phandlesFault (b7 c)
+  phandle-fault = c .read-numbers2 .ensures .0 ∙ numbers-stage (b7 c) (well-5 read) (indexed read .index-keys .ensures) (listed-is (wholes read)) {wanted = Phandles} refl 17
+
+  phandles-laid : phandlesFault (b7 c) .number ≡ 0 → c .read-numbers2 .last .1 .1 .1 .1 .1 .0 ≡ over (phandleList (b7 c)) (replicate 256 0)
+  phandles-laid z =
+      c .read-numbers2 .ensures .1 ∙ numbers-found (b7 c) (well-5 read) (indexed read .index-keys .ensures) (listed-is (wholes read)) {wanted = Phandles} refl 17 _ z
+
+clear-phandles : (c : tie.Else6) → phandlesFault (b7 (c .before .before .before)) .number ≡ 0
+clear-phandles c = ap (λ (f : Fault). f .number) (sym (phandle-fault (c .before .before .before))) ∙ c .if6 .left
+
+rest-6 : (c : tie.Else6) → surveyFault (b7 (c .before .before .before)) ≡ leavesFault (treeOf (b7 (c .before .before .before))) (cpuList (b7 (c .before .before .before)))
+rest-6 c = rest-5 (c .before .before .before .before .before .before) ∙ or-second (phandlesFault (b7 (c .before .before .before))) _ (clear-phandles c)
+
+module _ (c : tie.Else6) where
+  abbrev asked : tie.After-read-numbers2
+  asked = c .before .before .before
+
+  abbrev phandles : List ℕ
+  phandles = phandleList (b7 asked)
+
+  as-many : at-count (read asked) .before .before .list-cpus .result ≡ length phandles
+  as-many = count-is (at-count (read asked)) ∙ sym (length-map (cpuList (b7 asked)) _)
+
+  few-phandles : length phandles ≤ length (replicate {A = ℕ} 256 0)
+  few-phandles = omega (arith, as-many, count-is (at-count (read asked)), listed-few (at-count (read asked)), length-replicate {A = ℕ} 256 0)
+
+-- rules 18 to 26
+module _ (c : tie.After-read-tree) where
+  abbrev e6 : tie.Else6
+  e6 = c .before .before .before .before .before
+
+  abbrev found : tie.After-find-map
+  found = asked e6 .before .before .before .before .before
+
+  phandles-are : take (at-count (read (asked e6)) .before .before .list-cpus .result) (asked e6 .read-numbers2 .last .1 .1 .1 .1 .1 .0) ≡ phandles e6
+  phandles-are = front-is _ _ (phandles-laid (asked e6) (clear-phandles e6)) (as-many e6) (few-phandles e6)
+
+  root-is : found .find-map .result .map ≡ mapOf (b8 c .nodes) (b8 c .pool)
+  root-is = ap (λ (r : MapScan). r .map) (found .find-map .ensures) ∙ map-root (b8 c .nodes) (b8 c .pool) (clear-map (asked e6 .before .before .before))
+
+  abbrev keyed : tie.After-read-numbers
+  keyed = read (asked e6)
+
+  abbrev theTree : Tree
+  theTree =
+      tree (b8 c .nodes) (keyCells (b8 c .props) (b8 c .pool) (indexed keyed .index-keys .last .1 .1 .0)) (b8 c .pool) (found .find-map .result .map)
+      (take (count (wholes keyed)) (asked e6 .read-numbers2 .last .1 .1 .1 .1 .1 .0))
+
+  tree-here : theTree ≡ treeOf (b8 c)
+  tree-here = tree-is (b8 c) (well-5 keyed) (indexed keyed .index-keys .ensures) (listed-is (wholes keyed)) root-is phandles-are
+
+  scanned : c .read-tree .result ≡ treeScan (treeOf (b8 c)) (cpuList (b8 c))
+  scanned = c .read-tree .ensures .0 ∙ ap₂ treeScan tree-here (listed-is (wholes keyed))
+
+  tree-number : c .read-tree .result .number ≡ leavesFault (treeOf (b8 c)) (cpuList (b8 c)) .number
+  tree-number = ap (λ (r : TreeScan). r .number) scanned
+
+  tree-place : c .read-tree .result .place ≡ leavesFault (treeOf (b8 c)) (cpuList (b8 c)) .place
+  tree-place = ap (λ (r : TreeScan). r .place) scanned
+
+module _ (c : tie.Else7) where
+  abbrev call : tie.After-read-tree
+  call = c .before .before
+
+  clear-tree : leavesFault (treeOf (b8 call)) (cpuList (b8 call)) .number ≡ 0
+  clear-tree = sym (tree-number call) ∙ c .if7 .left
+
+  leaves-laid : call .read-tree .last .1 .1 .1 .1 .1 .1 .1 .0 ≡ over (leavesOf (b8 call)) (start (at-count (keyed call) .before) .args .leaves .now)
+  leaves-laid = call .read-tree .ensures .1 .0 ∙ ap (λ (t : Tree). leavesOver t (start (at-count (keyed call) .before) .args .leaves .now)) (tree-here call) ∙ leaves-listed (treeOf (b8 call)) (cpuList (b8 call)) clear-tree _
+
+  named-laid : call .read-tree .last .1 .1 .1 .1 .1 .1 .1 .1 .0 ≡ over (namedOf (b8 call)) (start (at-count (keyed call) .before) .args .named .now)
+  named-laid = call .read-tree .ensures .1 .1 ∙ ap (λ (t : Tree). namedOver t (start (at-count (keyed call) .before) .args .named .now)) (tree-here call) ∙ named-listed (treeOf (b8 call)) (cpuList (b8 call)) clear-tree _
+
+  leaf-count : call .read-tree .result .count ≡ length (leavesOf (b8 call))
+  leaf-count = ap (λ (r : TreeScan). r .count) (scanned call) ∙ rw (eq-eqb _ 0 clear-tree)
+
+-- a number told of place 0
+told-at-zero : (v : ℕ) → 0 ≡ told v 0 .place
+told-at-zero zero = refl
+told-at-zero (suc v) = refl
+
+table-fault-requires : tie.Need-table-fault-requires
+table-fault-requires c κs = search needs
+
+stop-requires : tie.Need-stop-requires
+stop-requires c κs = search needs
+
+returns : tie.Need-returns
+returns c =
+    let call = c .before .before .before in
+    let is = call .table-fault .ensures in
+    tells-first (b1 call) (tableFault (b1 call)) _ (survey-stages (b1 call)) (c .stop .ensures) (c .before .if1 .taken) (ap (λ (f : Fault). f .number) is) (ap (λ (f : Fault). f .place) is)
+
+read-cells-requires : tie.Need-read-cells-requires
+read-cells-requires c κs = search needs
+
+stop-requires-2 : tie.Need-stop-requires-2
+stop-requires-2 c κs = search needs
+
+returns-2 : tie.Need-returns-2
+returns-2 c =
+    let call = c .before .before in
+    let b = b2 (call .before) in
+    let nine = cells-broken b (sym (call .read-cells .ensures) ∙ c .before .if2 .taken) in
+    tells-first b (told (rootFault b) 0) _ (rest-1 (call .before)) (c .stop2 .ensures) (λ z. omega arith) (rw nine) (rw nine)
+
+list-cpus-requires : tie.Need-list-cpus-requires
+list-cpus-requires c κs = search needs
+
+count-fault-requires : tie.Need-count-fault-requires
+count-fault-requires c κs = search needs
+
+stop-requires-3 : tie.Need-stop-requires-3
+stop-requires-3 c κs = search needs
+
+returns-3 : tie.Need-returns-3
+returns-3 c =
+    let call = c .before .before in
+    let b = b4 call in
+    tells-first b (told (countFault (cpuCount b)) 0) _ (rest-2 (call .before .before .before)) (c .stop3 .ensures) (c .before .if3 .taken) (counted call ∙ sym (told-number _ 0)) (told-at-zero (countFault (cpuCount b)))
+
+slice-aggregate-listed : tie.Need-slice-aggregate-listed
+slice-aggregate-listed c = listed-size (c .before)
+
+index-keys-requires : tie.Need-index-keys-requires
+index-keys-requires c κs = search needs
+
+read-numbers-requires : tie.Need-read-numbers-requires
+read-numbers-requires c κs =
+    let w = c .before .before .before .before .before in
+    omega (arith, listed-size w, count-is (w .before .before), listed-few (w .before .before), c .read-numbers-arg .given .0 .1)
+
+stop-requires-4 : tie.Need-stop-requires-4
+stop-requires-4 c κs = search needs
+
+returns-4 : tie.Need-returns-4
+returns-4 c =
+    let call = c .before .before .before in
+    let is = mpidr-fault call in
+    tells-first (b5 call) (cpuFault (b5 call)) _ (rest-3 (at-count call)) (c .stop4 .ensures) (c .before .if4 .taken) (ap (λ (f : Fault). f .number) is) (ap (λ (f : Fault). f .place) is)
+
+find-map-requires : tie.Need-find-map-requires
+find-map-requires c κs = search needs
+
+stop-requires-5 : tie.Need-stop-requires-5
+stop-requires-5 c κs = search needs
+
+returns-5 : tie.Need-returns-5
+returns-5 c =
+    let call = c .before .before .before in
+    let b = b6 call in
+    let place = ap (λ (r : MapScan). r .place) (call .find-map .ensures) ∙ map-place (b .nodes) (b .pool) (λ z. c .before .if5 .taken (map-fault call ∙ z)) in
+    tells-first b (mapStage b) _ (rest-4 (call .before)) (c .stop5 .ensures) (c .before .if5 .taken) (map-fault call) place
+
+slice-aggregate-read-numbers : tie.Need-slice-aggregate-read-numbers
+slice-aggregate-read-numbers c = search needs
+
+read-numbers-requires-2 : tie.Need-read-numbers-requires-2
+read-numbers-requires-2 c κs =
+    let first = c .before .before .before .before .before .before .before in
+    omega (arith, listed-size (wholes first), count-is (at-count first), listed-few (at-count first), length-replicate {A = ℕ} 256 0)
+
+stop-requires-6 : tie.Need-stop-requires-6
+stop-requires-6 c κs = search needs
+
+returns-6 : tie.Need-returns-6
+returns-6 c =
+    let call = c .before .before .before .before in
+    let is = phandle-fault call in
+    tells-first (b7 call) (phandlesFault (b7 call)) _ (rest-5 (call .before .before .before)) (c .stop6 .ensures) (c .before .if6 .taken) (ap (λ (f : Fault). f .number) is) (ap (λ (f : Fault). f .place) is)
+
+array-share-prefix-phandles : tie.Need-array-share-prefix-phandles
+array-share-prefix-phandles c = let e = c .before in front-fits _ _ (phandles-laid (asked e) (clear-phandles e)) (as-many e) (few-phandles e)
+
+slice-aggregate-read-tree : tie.Need-slice-aggregate-read-tree
+slice-aggregate-read-tree c = let e = c .before .before in front-size _ _ (phandles-laid (asked e) (clear-phandles e)) (as-many e) (few-phandles e)
+
+read-tree-requires : tie.Need-read-tree-requires
+read-tree-requires c κs =
+    let e = c .before .before .before .before in
+    omega (arith, front-size _ _ (phandles-laid (asked e) (clear-phandles e)) (as-many e) (few-phandles e), as-many e, few-phandles e, length-replicate {A = ℕ} 256 0)
+
+stop-requires-7 : tie.Need-stop-requires-7
+stop-requires-7 c κs = search needs
+
+returns-7 : tie.Need-returns-7
+returns-7 c =
+    let call = c .before .before .before in
+    tells (b8 call) (rest-6 (e6 call)) (c .stop7 .ensures) (c .before .if7 .taken) (tree-number call) (tree-place call)
+
+returns-8 : tie.Need-returns-8
+returns-8 c =
+    let b = b8 (call c) in
+    let first = read (asked (e6 (call c))) in
+    clears b (ap (λ (f : Fault). f .number) (rest-6 (e6 (call c))) ∙ clear-tree c)
+    (at-count first .before .before .list-cpus .ensures .0)
+    (leaf-count c)
+    (record {
+      cpus-laid = at-count first .before .before .list-cpus .ensures .1;
+      mpidrs-laid = mpidrs-laid first (clear-mpidrs (found (call c) .before));
+      leaves-laid = leaves-laid c;
+      named-laid = named-laid c;
+    })
+
+pub survey-spec : {M : Type 1} → statement M
+survey-spec =
+    tie.close
+    (tie.spec
+    table-fault-requires
+    stop-requires
+    returns
+    read-cells-requires
+    stop-requires-2
+    returns-2
+    list-cpus-requires
+    count-fault-requires
+    stop-requires-3
+    returns-3
+    slice-aggregate-listed
+    index-keys-requires
+    read-numbers-requires
+    stop-requires-4
+    returns-4
+    find-map-requires
+    stop-requires-5
+    returns-5
+    slice-aggregate-read-numbers
+    read-numbers-requires-2
+    stop-requires-6
+    returns-6
+    array-share-prefix-phandles
+    slice-aggregate-read-tree
+    read-tree-requires
+    stop-requires-7
+    returns-7
+    returns-8)
