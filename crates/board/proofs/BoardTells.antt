@@ -14,17 +14,17 @@ use Rattle.laws.proofs.ListingLaws.{listing-unique}
 use Rattle.laws.proofs.FirstLaws.{Tells, end-tells}
 use Rattle.laws.proofs.RuleStageLaws.{Clears, Once, once-tells, else-clear}
 use Rattle.tables.specs.Board.{Board, Typed}
-use Rattle.tables.specs.Order.{stage}
-use Rattle.tables.specs.Rules.{WellFormed}
-use Rattle.tables.proofs.RuleLaws.{table-tells}
+use Rattle.wellformed.specs.Order.{stage}
+use Rattle.wellformed.specs.Rules.{WellFormed}
+use Rattle.wellformed.proofs.RuleLaws.{table-tells}
 use Rattle.cpus.specs.Node.{Cpu}
 use Rattle.cpus.specs.Check.{cpuCount, cpuList}
 use Rattle.cpus.proofs.CpuMeans.{cpu-listing, cpu-count}
 use Rattle.cpus.proofs.CpuTells.{cpus-tells, phandles-tells}
-use Rattle.topology.specs.Scan.{treeAt, leavesFault}
+use Rattle.leaves.specs.Scan.{treeAt, leavesFault}
 use Rattle.topology.proofs.MapMeans.{map-is}
 use Rattle.topology.proofs.MapTells.{map-tells}
-use Rattle.topology.proofs.TreeTells.{tree-tells}
+use Rattle.leaves.proofs.TreeTells.{tree-tells}
 use Rattle.rows.specs.Fits.{rowSize}
 use Rattle.board.specs.Rules.{Breaks}
 use Rattle.board.specs.Answer.{boardFault, roomFault}

@@ -12,14 +12,14 @@ use Rattle.laws.proofs.OrElseLaws.{or-clear}
 use Rattle.laws.proofs.RuleStageLaws.{told-place, else-place}
 use Rattle.tables.specs.Board.{Board, nodeCount}
 use Rattle.tables.specs.Limits.{maxProperties}
-use Rattle.tables.specs.Check.{tableFault}
-use Rattle.tables.proofs.RuleLaws.{table-place, table-sound}
-use Rattle.tables.proofs.WellFormedLaws.{wf-nodes}
+use Rattle.wellformed.specs.Check.{tableFault}
+use Rattle.wellformed.proofs.RuleLaws.{table-place, table-sound}
+use Rattle.wellformed.proofs.WellFormedLaws.{wf-nodes}
 use Rattle.cpus.specs.Check.{cpuCount, cpuList, cpusFault, phandlesFault}
 use Rattle.cpus.proofs.CpuTells.{cpus-place, phandles-place}
 use Rattle.topology.specs.Find.{mapOf, mapFault, noMapFault, secondMapFault}
-use Rattle.topology.specs.Scan.{leavesFault, treeOf}
-use Rattle.topology.proofs.TreeTells.{leaves-place}
+use Rattle.leaves.specs.Scan.{leavesFault, treeOf}
+use Rattle.leaves.proofs.TreeTells.{leaves-place}
 use Rattle.board.specs.Survey.{surveyFault}
 use Rattle.board.specs.Answer.{boardFault, roomFault, answerOf}
 use Rattle.board.proofs.LayerLaws.{board-stages, few-cpus}

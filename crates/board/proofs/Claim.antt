@@ -12,8 +12,8 @@ use Rattle.laws.proofs.SearchLaws.{lt-or-le}
 use Rattle.laws.proofs.RuleStageLaws.{tells-first, tells-none}
 use Rattle.affinity.specs.Hash.{hashOf}
 use Rattle.tables.specs.Board.{Board, Typed, nodeCount}
-use Rattle.tables.specs.Order.{stage}
-use Rattle.tables.specs.Rules.{WellFormed}
+use Rattle.wellformed.specs.Order.{stage}
+use Rattle.wellformed.specs.Rules.{WellFormed}
 use Rattle.cpus.specs.Rules.{CpuRule, SoundCpus}
 use Rattle.cpus.specs.Check.{cpuCount, cpuList, mpidrList}
 use Rattle.cpus.proofs.CpuMeans.{cpu-listing, cpu-count}

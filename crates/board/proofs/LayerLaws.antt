@@ -8,11 +8,11 @@ use borrow.Author.Tests.{ltb-false}
 use Rattle.laws.specs.Fault.{told, orElse}
 use Rattle.laws.proofs.OrElseLaws.{told-number, or-clear, or-assoc}
 use Rattle.tables.specs.Board.{Board}
-use Rattle.tables.specs.Check.{tableFault}
+use Rattle.wellformed.specs.Check.{tableFault}
 use Rattle.cpus.specs.Rules.{maxCpus}
 use Rattle.cpus.specs.Check.{cpuCount, cpuList, countFault, rootFault, cpusFault, phandlesFault}
 use Rattle.topology.specs.Find.{mapFault}
-use Rattle.topology.specs.Scan.{leavesFault, treeOf}
+use Rattle.leaves.specs.Scan.{leavesFault, treeOf}
 use Rattle.board.specs.Survey.{surveyFault}
 use Rattle.board.specs.Answer.{boardFault, roomFault}
 

@@ -14,12 +14,12 @@ use Rattle.laws.proofs.OrElseLaws.{told-number, or-clear, or-assoc}
 use Rattle.affinity.specs.declared.Hash.{Hash}
 use Rattle.affinity.specs.Hash.{hashOfMask, hashOf}
 use Rattle.tables.specs.Board.{Board, Typed}
-use Rattle.tables.specs.Check.{tableFault}
+use Rattle.wellformed.specs.Check.{tableFault}
 use Rattle.cpus.specs.Rules.{maxCpus}
 use Rattle.cpus.specs.Check.{cpuCount, countFault, rootFault, cpusFault, phandlesFault, mpidrList}
 use Rattle.topology.specs.declared.MapScan.{MapScan}
 use Rattle.topology.specs.Find.{mapOf, mapFault, mapScan}
-use Rattle.topology.specs.Scan.{leavesFault, treeOf, leavesOf}
+use Rattle.leaves.specs.Scan.{leavesFault, treeOf, leavesOf}
 use Rattle.rows.specs.Fits.{rowSize}
 use Rattle.rows.specs.Write.{written, sourceOf}
 use Rattle.board.specs.declared.BoardAnswer.{BoardAnswer}

@@ -7,9 +7,9 @@ use native.Mathlib.Omega.{arith}
 use lib.ListN.{length}
 use Rattle.laws.specs.Listing.{Listing}
 use Rattle.tables.specs.Board.{Board}
-use Rattle.tables.specs.Order.{stage}
-use Rattle.tables.specs.Rules.{TableRule}
-use Rattle.tables.proofs.RuleLaws.{rule-staged}
+use Rattle.wellformed.specs.Order.{stage}
+use Rattle.wellformed.specs.Rules.{TableRule}
+use Rattle.wellformed.proofs.RuleLaws.{rule-staged}
 use Rattle.cpus.specs.Node.{Cpu}
 use Rattle.cpus.specs.Rules.{CpuRule}
 use Rattle.topology.specs.Rules.{MapRule}

@@ -11,9 +11,9 @@ use Rattle.laws.proofs.FaultLaws.{or-first}
 use Rattle.laws.proofs.OrElseLaws.{or-clear, or-assoc}
 use Rattle.tables.specs.Board.{Board}
 use Rattle.tables.specs.Property.{lookup}
-use Rattle.tables.specs.Rules.{WellFormed}
-use Rattle.tables.specs.Check.{tableFault}
-use Rattle.tables.proofs.WellFormedLaws.{wf-nodes, wf-props, wf-prop-node}
+use Rattle.wellformed.specs.Rules.{WellFormed}
+use Rattle.wellformed.specs.Check.{tableFault}
+use Rattle.wellformed.proofs.WellFormedLaws.{wf-nodes, wf-props, wf-prop-node}
 use Rattle.keys.specs.declared.Key.{Key}
 use Rattle.keys.specs.declared.Key.the-variants.{Cpu}
 use Rattle.keys.specs.Key.{keyName}
@@ -28,10 +28,10 @@ use Rattle.cpus.specs.Gather.{readingAt, readingOf, firstRecord, numbersOver}
 use Rattle.cpus.proofs.CpuMeans.{cpu-count}
 use Rattle.cpus.proofs.ScanLaws.{same-reading, numbers-clear}
 use Rattle.topology.specs.Find.{mapOf, mapFault}
-use Rattle.topology.specs.Check.{keyCells}
-use Rattle.topology.specs.Scan.{tree, leavesFault, treeOf, leavesOf}
-use Rattle.topology.proofs.CellLaws.{same-cells}
-use Rattle.topology.proofs.ScanLaws.{leaves-few}
+use Rattle.leaves.specs.Check.{keyCells}
+use Rattle.leaves.specs.Scan.{tree, leavesFault, treeOf, leavesOf}
+use Rattle.leaves.proofs.CellLaws.{same-cells}
+use Rattle.leaves.proofs.ScanLaws.{leaves-few}
 use Rattle.laws.specs.Listed.{over}
 use Rattle.board.specs.declared.Surveyed.{Surveyed}
 use Rattle.board.specs.Survey.{surveyFault, stopped, surveyOf}

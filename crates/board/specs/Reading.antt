@@ -8,7 +8,7 @@ use Rattle.laws.specs.Listing.{Listing}
 use Rattle.affinity.specs.Hash.{hashOf}
 use Rattle.affinity.specs.List.{noHash}
 use Rattle.tables.specs.Board.{Board}
-use Rattle.tables.specs.Rules.{WellFormed}
+use Rattle.wellformed.specs.Rules.{WellFormed}
 use Rattle.cpus.specs.Node.{Cpu}
 use Rattle.cpus.specs.Rules.{SoundCpus}
 use Rattle.topology.specs.Map.{Map}

@@ -9,10 +9,10 @@ use Rattle.laws.specs.declared.Fault.{Fault}
 use Rattle.laws.specs.Fault.{orElse}
 use Rattle.laws.specs.Listed.{over}
 use Rattle.tables.specs.Board.{Board}
-use Rattle.tables.specs.Check.{tableFault}
+use Rattle.wellformed.specs.Check.{tableFault}
 use Rattle.cpus.specs.Check.{cpusFault, cpuCount, cpuList, mpidrList, phandlesFault}
 use Rattle.topology.specs.Find.{mapFault}
-use Rattle.topology.specs.Scan.{treeOf, leavesOf, namedOf, leavesFault}
+use Rattle.leaves.specs.Scan.{treeOf, leavesOf, namedOf, leavesFault}
 use Rattle.board.specs.declared.Surveyed.{Surveyed}
 
 -- the first of rules 1 to 26 that is broken

@@ -37,7 +37,7 @@ pub fn survey(
         let b = board width (now (nodes .entry)) (now (props .entry)) (now (pool .entry)) in
         ⌜ Left b (now (cpus .entry)) (now (mpidrs .entry)) (now (leaves .entry)) (now (named .entry)) (now (cpus .exit)) (now (mpidrs .exit)) (now (leaves .exit)) (now (named .exit)) ⌝ }
 {
-    let fault = tables::table_fault(width, nodes, props, pool);
+    let fault = wellformed::table_fault(width, nodes, props, pool);
     if fault.number != 0 {
         return stop(fault.number, fault.place);
     }
@@ -67,7 +67,7 @@ pub fn survey(
     if fault.number != 0 {
         return stop(fault.number, fault.place);
     }
-    let tree = topology::read_tree(
+    let tree = leaves::read_tree(
         nodes,
         props,
         pool,

@@ -5,7 +5,7 @@ use Prim.Native.Nat.{ℕ, _<_}
 use native.Mathlib.Omega.{arith}
 use Rattle.laws.proofs.FirstLaws.{compared}
 use Rattle.tables.specs.Board.{Board, Typed}
-use Rattle.tables.specs.Rules.{WellFormed}
+use Rattle.wellformed.specs.Rules.{WellFormed}
 use Rattle.cpus.specs.declared.Reading.{Reading}
 use Rattle.cpus.specs.Node.{Cpu, Reg, mpidr, Phandle}
 use Rattle.cpus.specs.Rules.{CpuRule, SoundCpus}

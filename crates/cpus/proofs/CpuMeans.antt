@@ -11,33 +11,15 @@ use lib.Seq.{take-take, take-add, take-append-seam}
 use Rattle.laws.specs.Listing.{Listing}
 use Rattle.laws.proofs.SearchLaws.{lt-or-le, list-length}
 use Rattle.laws.proofs.ListingLaws.{listed}
-use Rattle.laws.proofs.DecideLaws.{Decides, decides-not, decides-as, eq-decides, lt-decides, then-decides, both-decides, either-decides, without-decides}
-use Rattle.tables.specs.Board.{Board, Inside, range, rangeIs, nodeCount, nodeName, parentWord, nameOffset, nameLength}
+use Rattle.laws.proofs.DecideLaws.{Decides, decides-as, lt-decides, then-decides, either-decides, without-decides}
+use Rattle.tables.specs.Board.{Board, Inside, rangeIs, nodeCount, nodeName, nameOffset, nameLength}
 use Rattle.tables.specs.Tree.{Child}
-use Rattle.tables.specs.Rules.{WellFormed}
-use Rattle.tables.proofs.LookupLaws.{range-is-true, true-range-is}
-use Rattle.tables.proofs.WellFormedLaws.{wf-name}
+use Rattle.wellformed.specs.Rules.{WellFormed}
+use Rattle.tables.proofs.DecideLaws.{child-test, range-decides, range-test}
+use Rattle.wellformed.proofs.WellFormedLaws.{wf-name}
 use Rattle.cpus.specs.Words.{cpuWord, cpuUnit}
 use Rattle.cpus.specs.Node.{Begins, Cpu}
-use Rattle.cpus.specs.Check.{isChild, isCpuName, isCpu, cpuCount, cpuList}
-
--- children
-pub child-test : (nodes : List ℕ) (p i : ℕ) → Decides (isChild nodes p i) (Child nodes p i)
-unfolding isChild
-child-test nodes p i =
-    decides-as (both-decides (lt-decides i (nodeCount nodes)) (both-decides (eq-decides (parentWord nodes i) p) (lt-decides p i)))
-    (λ h. record { inside = h .0; word = h .1 .0; earlier = h .1 .1 })
-    (λ c. (c .inside, (c .word, c .earlier)))
-
-pub not-child-test : (nodes : List ℕ) (p i : ℕ) → (isChild nodes p i ≡ false → Child nodes p i → ⊥) × ((Child nodes p i → ⊥) → isChild nodes p i ≡ false)
-not-child-test nodes p i = decides-not (child-test nodes p i)
-
--- the test of a range, and of one that lies inside the pool
-pub range-decides : (pool : List ℕ) (offset len : ℕ) (bytes : List ℕ) → Decides (rangeIs pool offset len bytes) (Inside pool offset len × (range pool offset len ≡ bytes))
-range-decides pool offset len bytes = (range-is-true pool offset len bytes, λ h. true-range-is pool offset len bytes (h .0) (h .1))
-
-pub range-test : (pool : List ℕ) (offset len : ℕ) (bytes : List ℕ) → Inside pool offset len → Decides (rangeIs pool offset len bytes) (range pool offset len ≡ bytes)
-range-test pool offset len bytes inside = decides-as (range-decides pool offset len bytes) (λ h. h .1) (λ e. (inside, e))
+use Rattle.cpus.specs.Check.{isCpuName, isCpu, cpuCount, cpuList}
 
 -- a range of the pool begins with given bytes where its first part is these bytes
 module _ (l start : List ℕ) (len : ℕ) where
@@ -80,9 +62,6 @@ module _ {b : Board} (well : WellFormed b) where
         decides-as (then-decides (child-test (b .nodes) 0 i) (λ c. name-test (wf-name well i (c .inside) .inside)))
         (λ h. record { child = h .0; name = h .1 })
         (λ c. (c .child, c .name))
-
-    pub not-cpu-test : (isCpu (b .nodes) (b .pool) i ≡ false → Cpu b i → ⊥) × ((Cpu b i → ⊥) → isCpu (b .nodes) (b .pool) i ≡ false)
-    not-cpu-test = decides-not cpu-test
 
   -- the list of cpu records
   pub cpu-listing : Listing (Cpu b) (cpuList b)

@@ -12,8 +12,8 @@ use Rattle.laws.proofs.FirstLaws.{Tells, Stage, stage-tells, end-tells}
 use Rattle.laws.proofs.RuleStageLaws.{else-assoc, Clears, first-clears, else-clears, else-clear, told-place, else-place, Once, once-tells}
 use Rattle.laws.proofs.DecideLaws.{eq-decides, holds-unless}
 use Rattle.tables.specs.Board.{Board, Typed, nodeCount}
-use Rattle.tables.specs.Order.{stage}
-use Rattle.tables.specs.Rules.{WellFormed}
+use Rattle.wellformed.specs.Order.{stage}
+use Rattle.wellformed.specs.Rules.{WellFormed}
 use Rattle.cpus.specs.Node.{Cpu, AddressCells}
 use Rattle.cpus.specs.Rules.{CpuRule, SoundCpus}
 use Rattle.cpus.specs.Check.{isCpu, addressCells, rootFault, cpuCount, countFault, mpidrReadings, phandleReadings, cpuFault, cpusFault, phandlesFault}

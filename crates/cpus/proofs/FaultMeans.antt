@@ -10,8 +10,8 @@ use Rattle.laws.proofs.SearchLaws.{true-false}
 use Rattle.laws.proofs.DecideLaws.{Decides, decides-not, decides-as, eq-decides}
 use Rattle.tables.specs.Board.{Board, Typed, rangeIs, nodeName, nameOffset, nameLength}
 use Rattle.tables.specs.Property.{HasValue, cellBytes}
-use Rattle.tables.specs.Rules.{WellFormed}
-use Rattle.tables.proofs.WellFormedLaws.{wf-nodes, wf-name}
+use Rattle.wellformed.specs.Rules.{WellFormed}
+use Rattle.wellformed.proofs.WellFormedLaws.{wf-nodes, wf-name}
 use Rattle.tables.proofs.CellLaws.{cell-bytes-apart}
 use Rattle.cpus.specs.declared.Cell.{Cell}
 use Rattle.cpus.specs.declared.Cell.the-variants as cell
@@ -24,7 +24,8 @@ use Rattle.cpus.specs.declared.Reading.{Reading}
 use Rattle.cpus.specs.Gather.{unlessSeen}
 use Rattle.cpus.specs.Check.{isCpu, addressCells, isZeroCell, rootFault, cpuCount, cpuList, countFault, mpidrReadings, phandleReadings}
 use Rattle.cpus.proofs.ScanLaws.{gatherFault, seen-decides}
-use Rattle.cpus.proofs.CpuMeans.{range-test, cpu-test, cpu-listing, cpu-count}
+use Rattle.tables.proofs.DecideLaws.{range-test}
+use Rattle.cpus.proofs.CpuMeans.{cpu-test, cpu-listing, cpu-count}
 use Rattle.cpus.proofs.ValueMeans.{value-unique, CellSays, cell-says}
 use Rattle.cpus.proofs.RegMeans.{cells-cases, cells-test, test-cells, reg-bounds, reg-unique, MpidrSays, mpidr-says, mpidr-read, PhandleSays, phandle-says, phandle-read, phandle-unique}
 use Rattle.cpus.proofs.PairMeans.{mpidr-apart}

@@ -14,7 +14,7 @@ use Rattle.affinity.specs.Level.{Affine, isAffine}
 use Rattle.affinity.proofs.AffineLaws.{test-affine}
 use Rattle.tables.specs.Board.{Board, Typed, valueOffset, valueLength}
 use Rattle.tables.specs.Property.{Property, HasValue, cellBytes, cellAt}
-use Rattle.tables.specs.Rules.{WellFormed}
+use Rattle.wellformed.specs.Rules.{WellFormed}
 use Rattle.tables.proofs.LookupLaws.{lookup-cases}
 use Rattle.tables.proofs.CellLaws.{cell-bytes, cell-back, cell-bytes-apart, cell-lt}
 use Rattle.cpus.specs.declared.Cell.{Cell}

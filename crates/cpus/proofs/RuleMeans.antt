@@ -7,9 +7,9 @@ use native.Mathlib.Omega.{arith}
 use lib.ListN.{length, getD}
 use Rattle.laws.proofs.ListingLaws.{listing-unique}
 use Rattle.tables.specs.Board.{Board}
-use Rattle.tables.specs.Order.{stage}
+use Rattle.wellformed.specs.Order.{stage}
 use Rattle.tables.specs.Property.{HasValue}
-use Rattle.tables.specs.Rules.{WellFormed}
+use Rattle.wellformed.specs.Rules.{WellFormed}
 use Rattle.keys.specs.Key.{regKey, deviceTypeKey}
 use Rattle.cpus.specs.Words.{cpuString}
 use Rattle.cpus.specs.Node.{Cpu, Reg}

@@ -11,14 +11,14 @@ use Rattle.laws.proofs.DecideLaws.{Decides, decides-as, eq-decides, le-decides,
 use Rattle.tables.specs.declared.Lookup.the-variants.{At}
 use Rattle.tables.specs.Board.{Board, Typed, Inside, range, propValue, valueOffset, valueLength}
 use Rattle.tables.specs.Property.{Property, HasValue, cellBytes, cellAt}
-use Rattle.tables.specs.Rules.{WellFormed}
+use Rattle.wellformed.specs.Rules.{WellFormed}
 use Rattle.tables.proofs.LookupLaws.{lookup-cases}
-use Rattle.tables.proofs.WellFormedLaws.{wf-unique, wf-value-unique}
+use Rattle.wellformed.proofs.WellFormedLaws.{wf-unique, wf-value-unique}
 use Rattle.tables.proofs.CellLaws.{cell-bytes, cell-bytes-apart, cell-lt}
 use Rattle.cpus.specs.declared.Cell.{Cell}
 use Rattle.cpus.specs.declared.Cell.the-variants.{Is, Not}
 use Rattle.cpus.specs.Cell.{valueSized, valueIn, hasValue, cellOf}
-use Rattle.cpus.proofs.CpuMeans.{range-decides}
+use Rattle.tables.proofs.DecideLaws.{range-decides}
 
 -- the length of a range that lies inside the pool
 pub range-length : (pool : List ℕ) (offset len : ℕ) → Inside pool offset len → length (range pool offset len) ≡ len

@@ -6,7 +6,8 @@ use lib.Dec.{eqb, ltb}
 use Rattle.laws.specs.declared.Fault.{Fault}
 use Rattle.laws.specs.Fault.{told, orElse}
 use Rattle.laws.specs.Search.{countBelow, listBelow}
-use Rattle.tables.specs.Board.{Board, nodeCount, parentWord, nameOffset, nameLength, rangeIs}
+use Rattle.tables.specs.Board.{Board, nodeCount, nameOffset, nameLength, rangeIs}
+use Rattle.tables.specs.Tree.{isChild}
 use Rattle.cpus.specs.declared.Cell.{Cell}
 use Rattle.cpus.specs.declared.Cell.the-variants.{Is, Not}
 use Rattle.cpus.specs.declared.Wanted.the-variants.{Mpidrs, Phandles}
@@ -15,10 +16,6 @@ use Rattle.cpus.specs.Words.{cpusWord, cpuWord, cpuUnit, addressCellsKey
 use Rattle.cpus.specs.Cell.{cellOf}
 use Rattle.cpus.specs.Rules.{maxCpus}
 use Rattle.cpus.specs.Gather.{readingOf, firstRecord}
-
--- whether i is a child of p
-unfoldable pub isChild : List ℕ → ℕ → ℕ → Bool
-isChild nodes p i = cond (ltb i (nodeCount nodes)) (cond (eqb (parentWord nodes i) p) (ltb p i) false) false
 
 -- whether the name of record i is `cpu` or begins `cpu@`
 unfoldable pub isCpuName : List ℕ → ℕ → ℕ → Bool

@@ -8,7 +8,6 @@ mod value;
 
 pub use gather::read_numbers;
 pub use limits::MAX_CPUS;
-pub use node::is_child;
 pub use node::is_cpu;
 pub use root::count_fault;
 pub use root::list_cpus;

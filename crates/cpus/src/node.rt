@@ -1,25 +1,13 @@
 // Cpu records: the children of record 0 named `cpu` or beginning `cpu@`.
 use tables::cell_at;
+use tables::is_child;
 use tables::node_word;
 use tables::range_is;
 ghost use mathlib.Core.Path.{_≡_};
-ghost use Rattle.cpus.specs.Check.{isChild, isCpuName, isCpu};
+ghost use Rattle.cpus.specs.Check.{isCpuName, isCpu};
 
 // `cpu@` as a cell.
 const CPU_UNIT: u32 = 0x63707540;
-
-// Whether record i is a child of record p.
-pub fn is_child(nodes: &[u32], p: usize, i: usize) -> bool
-    ensures { λ r. ⌜ r ≡ isChild (now (nodes .entry)) p i ⌝ }
-{
-    if nodes.len() / 3 <= i {
-        return false;
-    }
-    if node_word(nodes, i, 0) != p {
-        return false;
-    }
-    p < i
-}
 
 // Whether a name is `cpu` or begins `cpu@`.
 fn is_cpu_name(pool: &[u8], offset: usize, len: usize) -> bool

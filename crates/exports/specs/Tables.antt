@@ -7,7 +7,7 @@ use Rattle.affinity.specs.List.{noHash}
 use Rattle.tables.specs.declared.Lookup.{Lookup}
 use Rattle.tables.specs.declared.Lookup.the-variants.{At, Missing}
 use Rattle.tables.specs.Board.{Board}
-use Rattle.tables.specs.Check.{tableFault}
+use Rattle.wellformed.specs.Check.{tableFault}
 use Rattle.exports.specs.Answer.{answerWords}
 
 abbrev pub checkWords : Board → List ℕ

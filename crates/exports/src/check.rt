@@ -7,7 +7,7 @@ use tables::Lookup;
 ghost use mathlib.Core.Path.{_≡_};
 ghost use Rattle.tables.specs.Board.{board};
 ghost use Rattle.tables.specs.Property.{lookup};
-ghost use Rattle.tables.specs.Check.{tableFault};
+ghost use Rattle.wellformed.specs.Check.{tableFault};
 ghost use Rattle.exports.specs.Answer.{orShort, answered};
 ghost use Rattle.exports.specs.Tables.{checkWords, foundWord};
 
@@ -29,7 +29,7 @@ pub extern "C" fn sunderwath_check_tables(
     if answer.len() < ANSWER_WORDS {
         return SHORT_ANSWER;
     }
-    let fault = tables::table_fault(width, nodes, props, pool);
+    let fault = wellformed::table_fault(width, nodes, props, pool);
     put_answer(answer, fault.number, fault.place as u32, 0, no_hash());
     fault.number
 }

@@ -15,7 +15,8 @@ use Rattle.tables.proofs.CellLaws.{cell-is}
 use Rattle.tables.proofs.CodePool.{other-length}
 use Rattle.keys.specs.Key.{regKey, cpuKey, phandleKey, deviceTypeKey}
 use Rattle.keys.specs.Index.{shortKey, keyOf}
-use Rattle.keys.proofs.RangeLaws.{same-test, range-decides, two-ranges, two-cells}
+use Rattle.tables.proofs.DecideLaws.{range-decides}
+use Rattle.keys.proofs.RangeLaws.{same-test, two-ranges, two-cells}
 
 module _ (pool : List ℕ) (offset : ℕ) where
   module _ (bytes : (i : ℕ) → getD pool i 0 < 256) where

@@ -13,7 +13,7 @@ use Rattle.laws.proofs.DecideLaws.{Decides, both-decides, decides-not}
 use Rattle.tables.specs.Board.{Inside, range, rangeIs}
 use Rattle.tables.specs.Property.{cellBytes, cellAt}
 use Rattle.tables.proofs.CellLaws.{cell-is}
-use Rattle.tables.proofs.LookupLaws.{range-is-true, true-range-is}
+use Rattle.tables.proofs.DecideLaws.{range-decides}
 
 -- two tests of one fact are equal
 pub same-test : {s t : Bool} {P Q : Type 0} → Decides s P → Decides t Q → (P → Q) → (Q → P) → s ≡ t
@@ -22,10 +22,6 @@ same-test {s} {t} {P} {Q} g h to from = go s refl
     go : (r : Bool) → s ≡ r → s ≡ t
     go true e = e ∙ sym (h .1 (to (g .0 e)))
     go false e = e ∙ sym (decides-not h .1 (λ q. decides-not g .0 e (from q)))
-
--- the test of a range decides whether it lies in the pool and holds the bytes
-pub range-decides : (pool : List ℕ) (offset len : ℕ) (bytes : List ℕ) → Decides (rangeIs pool offset len bytes) (Inside pool offset len × (range pool offset len ≡ bytes))
-range-decides pool offset len bytes = (range-is-true pool offset len bytes, λ h. true-range-is pool offset len bytes (h .0) (h .1))
 
 -- the front and the end of a list, which may overlap, are those of a name
 module _ (list name : List ℕ) (m n s : ℕ) (meet : s ≤ m) (size : length name ≡ n + s) where

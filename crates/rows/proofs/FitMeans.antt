@@ -4,8 +4,8 @@ use Prim.Native.Nat.{ℕ, _/_, _%_, _^_, _<_}
 use native.Mathlib.Omega.{arith}
 use Rattle.affinity.specs.Hash.{slotIn}
 use Rattle.tables.specs.Board.{Board, Typed, nodeCount}
-use Rattle.tables.specs.Rules.{WellFormed}
-use Rattle.tables.proofs.WellFormedLaws.{wf-nodes}
+use Rattle.wellformed.specs.Rules.{WellFormed}
+use Rattle.wellformed.proofs.WellFormedLaws.{wf-nodes}
 use Rattle.cpus.specs.Node.{Reg, mpidr}
 use Rattle.cpus.specs.Rules.{SoundCpus}
 use Rattle.cpus.specs.Check.{mpidrAt, mpidrList}
@@ -14,8 +14,8 @@ use Rattle.cpus.proofs.RegMeans.{reg-bounds}
 use Rattle.cpus.proofs.CpuGives.{cpu-reg}
 use Rattle.topology.specs.Map.{Map, Leaf, Names}
 use Rattle.topology.specs.Rules.{MapRule}
-use Rattle.topology.specs.Scan.{treeOf, leavesOf, leafList}
-use Rattle.topology.proofs.CheckLeaf.{leaf-in-map, in-map-inside}
+use Rattle.leaves.specs.Scan.{treeOf, leavesOf, leafList}
+use Rattle.leaves.proofs.CheckLeaf.{leaf-in-map, in-map-inside}
 use Rattle.rows.specs.Row.{rowOf, rowWords}
 use Rattle.rows.specs.Write.{rowsBelow, sourceOf}
 use Rattle.rows.specs.Fits.{rowAt, RowFits, Fits}

@@ -12,15 +12,15 @@ use Rattle.affinity.specs.Hash.{slotIn}
 use Rattle.names.specs.Kind.{Kind, Named}
 use Rattle.names.proofs.NameMeans.{named-unique}
 use Rattle.tables.specs.Board.{Board, Typed, nodeName}
-use Rattle.tables.specs.Rules.{WellFormed}
+use Rattle.wellformed.specs.Rules.{WellFormed}
 use Rattle.tables.proofs.DepthLaws.{child-unique}
 use Rattle.cpus.specs.Rules.{CpuRule, SoundCpus}
 use Rattle.cpus.proofs.RegMeans.{reg-unique}
 use Rattle.topology.specs.Map.{InMap, Is, Leaf}
 use Rattle.topology.specs.Rules.{MapRule}
 use Rattle.topology.proofs.NameFacts.{kinds-apart}
-use Rattle.topology.proofs.LeafMeans.{names-unique}
-use Rattle.topology.proofs.CheckLeaf.{leaf-in-map}
+use Rattle.leaves.proofs.LeafMeans.{names-unique}
+use Rattle.leaves.proofs.CheckLeaf.{leaf-in-map}
 use Rattle.rows.specs.Fits.{rowSize, rowAt, Mpidrs, SocketWord, CoreWord, ThreadWord, SlotWord, RowFits, Fits}
 use Rattle.rows.proofs.ShapeLaws.{socket-unique}
 use Rattle.rows.proofs.WordMeans.{cluster-word-only}

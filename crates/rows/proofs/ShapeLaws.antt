@@ -7,7 +7,7 @@ use Rattle.laws.proofs.DecideLaws.{decided}
 use Rattle.names.specs.Kind.{Kind}
 use Rattle.tables.specs.Board.{Board, parentWord}
 use Rattle.tables.specs.Tree.{Child, Ancestor}
-use Rattle.tables.specs.Rules.{WellFormed}
+use Rattle.wellformed.specs.Rules.{WellFormed}
 use Rattle.tables.proofs.DepthLaws.{ancestor-earlier, ancestor-inside, ancestor-cases, ancestor-chain}
 use Rattle.cpus.specs.Rules.{CpuRule, SoundCpus}
 use Rattle.topology.specs.Map.{Map, InMap, Is}

@@ -10,14 +10,14 @@ use Rattle.affinity.specs.Level.{Affine}
 use Rattle.affinity.specs.Hash.{hashOf, slotIn}
 use Rattle.affinity.proofs.SlotClaims.{slots-distinct, slot-bound}
 use Rattle.tables.specs.Board.{Board, Typed}
-use Rattle.tables.specs.Rules.{WellFormed}
+use Rattle.wellformed.specs.Rules.{WellFormed}
 use Rattle.cpus.specs.Rules.{SoundCpus}
 use Rattle.cpus.specs.Check.{cpuList, mpidrAt, mpidrList}
 use Rattle.cpus.proofs.CpuMeans.{cpu-listing}
 use Rattle.cpus.proofs.RegMeans.{reg-affine}
 use Rattle.cpus.proofs.CpuGives.{cpu-reg, mpidr-distinct}
 use Rattle.topology.specs.Map.{Leaf, Names}
-use Rattle.topology.specs.Scan.{cpuOf, treeOf, leavesOf}
+use Rattle.leaves.specs.Scan.{cpuOf, treeOf, leavesOf}
 use Rattle.rows.specs.Row.{rowOf, rowWords}
 use Rattle.rows.specs.Write.{rowsBelow, sourceOf}
 use Rattle.rows.specs.Fits.{rowSize}

@@ -7,7 +7,7 @@ use Rattle.laws.specs.Listing.{Listing}
 use Rattle.laws.proofs.IndexLaws.{getD-map-lt}
 use Rattle.affinity.specs.Hash.{slotIn}
 use Rattle.tables.specs.Board.{Board, Typed}
-use Rattle.tables.specs.Rules.{WellFormed}
+use Rattle.wellformed.specs.Rules.{WellFormed}
 use Rattle.cpus.specs.Rules.{CpuRule, SoundCpus}
 use Rattle.cpus.specs.Check.{cpuCount, cpuList, mpidrAt, mpidrList}
 use Rattle.cpus.proofs.CpuMeans.{cpu-listing, cpu-count}
@@ -15,10 +15,10 @@ use Rattle.cpus.proofs.CpuGives.{cpu-reg}
 use Rattle.topology.specs.Map.{Map, Leaf, Names}
 use Rattle.topology.specs.Find.{mapOf}
 use Rattle.topology.specs.Rules.{MapRule}
-use Rattle.topology.specs.Scan.{cpuOf, treeOf, leavesOf, leafList}
+use Rattle.leaves.specs.Scan.{cpuOf, treeOf, leavesOf, leafList}
 use Rattle.topology.proofs.MapMeans.{map-of, map-found}
-use Rattle.topology.proofs.PhandleMeans.{cpuAt}
-use Rattle.topology.proofs.TreeGives.{leaf-listing, leaf-names, leaf-cpu, leaves-apart, same-count}
+use Rattle.leaves.proofs.PhandleMeans.{cpuAt}
+use Rattle.leaves.proofs.TreeGives.{leaf-listing, leaf-names, leaf-cpu, leaves-apart, same-count}
 use Rattle.rows.specs.declared.Row.{Row}
 use Rattle.rows.specs.Row.{rowOf}
 use Rattle.rows.specs.Write.{rowNumber, sourceOf}

@@ -8,7 +8,7 @@ use Rattle.names.specs.declared.TopologyName.{TopologyName}
 use Rattle.names.specs.Kind.{Kind, Named}
 use Rattle.names.specs.Name.{answered}
 use Rattle.tables.specs.Board.{Board, nodeCount, nodeName, parentWord}
-use Rattle.tables.specs.Rules.{WellFormed}
+use Rattle.wellformed.specs.Rules.{WellFormed}
 use Rattle.cpus.specs.Rules.{SoundCpus}
 use Rattle.topology.specs.Map.{Map, Is, Leaf}
 use Rattle.topology.specs.Rules.{MapRule}
@@ -18,7 +18,7 @@ use Rattle.topology.proofs.NameFacts.{kinds-apart, topology-is}
 use Rattle.topology.proofs.KindMeans.{parent-of}
 use Rattle.topology.proofs.PathWords.{PathWord, cluster-above, above-cluster, path-word, path-word-only}
 use Rattle.topology.proofs.SocketMeans as sockets
-use Rattle.topology.proofs.CheckLeaf.{leaf-in-map, in-map-inside}
+use Rattle.leaves.proofs.CheckLeaf.{leaf-in-map, in-map-inside}
 use Rattle.rows.specs.Row.{coreOf, threadOf}
 use Rattle.rows.specs.Fits.{SocketWord, ClusterWord, CoreWord, ThreadWord}
 use Rattle.rows.proofs.ShapeLaws.{root-nameless, parent-kind}

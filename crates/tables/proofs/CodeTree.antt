@@ -1,18 +1,13 @@
--- Ancestors by the parent, and the depth-first rule. Assumes nothing.
+-- Ancestors by the parent. Assumes nothing.
 use mathlib.Core.Path.{_≡_, refl, sym, ap, _∙_}
 use mathlib.Core.Bool.{Bool, true, false, cond}
 use mathlib.Core.List.{List}
-use Prim.Native.Nat.{ℕ, zero, suc, _+_, _-_, _*_, _≤_, _<_}
+use Prim.Native.Nat.{ℕ, _≤_, _<_}
 use native.Mathlib.Omega.{arith}
 use lib.Dec.{eqb}
-use lib.ListN.{getD}
 use borrow.Author.Tests.{ne-eqb, eqb-true, eqb-false}
 use Rattle.tables.specs.declared.Parent.the-variants.{Is}
-use Rattle.tables.specs.Limits.{noParent}
-use Rattle.tables.specs.Board.{parentWord}
 use Rattle.tables.specs.Tree.{parentOf, isBelow, isAtOrBelow, Ancestor}
-use Rattle.tables.specs.Check.{soundParent}
-use Rattle.tables.proofs.CodePool.{word-zero}
 use Rattle.tables.proofs.TreeLaws.{parent-is, below-ancestor, below-here, below-parent}
 
 module _ (nodes : List ℕ) where
@@ -50,17 +45,3 @@ module _ (nodes : List ℕ) where
       go false e =
           let at = parent-is nodes i p h in
           ap (λ (q : ℕ). isBelow nodes q a) (sym (at .1)) ∙ below-parent nodes a i (at .0) (ne-eqb _ _ (λ q. eqb-false p a e (sym (at .1) ∙ q)))
-
-  -- the depth-first rule of the first record and of a later one, whose parent word is w
-  pub sound-first : (i w : ℕ) → i ≡ 0 → w ≡ getD nodes (3 * i + 0) 0 → eqb w noParent ≡ soundParent nodes i
-  unfolding soundParent
-  sound-first zero w z e = ap (λ (x : ℕ). eqb x noParent) e
-  sound-first (suc i) w z e = absurd (omega arith)
-
-  pub sound-later : (i w : ℕ) → (i ≡ 0 → ⊥) → w ≡ getD nodes (3 * i + 0) 0 → cond (eqb w (i - 1)) true (isBelow nodes (i - 1) w) ≡ soundParent nodes i
-  unfolding soundParent
-  sound-later zero w ne e = absurd (ne refl)
-  sound-later (suc i) w ne e =
-      let before : suc i - 1 ≡ i = omega arith in
-      let word : w ≡ parentWord nodes (suc i) = e ∙ word-zero nodes (3 * suc i) in
-      rw before (ap (λ (x : ℕ). cond (eqb x i) true (isBelow nodes i x)) word)

@@ -15,9 +15,8 @@ use Rattle.laws.proofs.SameLaws.{same-refl, same-equal}
 use Rattle.laws.proofs.TestLaws.{both-true}
 use Rattle.tables.specs.declared.Lookup.{Lookup}
 use Rattle.tables.specs.declared.Lookup.the-variants.{At, Missing}
-use Rattle.tables.specs.Board.{Board, Inside, range, rangeIs, propCount, propNode, propValue, keyOffset, keyLength}
-use Rattle.tables.specs.Property.{Property, HasValue, isProperty, lookup}
-use Rattle.tables.specs.Rules.{TableRule}
+use Rattle.tables.specs.Board.{Board, Inside, range, rangeIs, propCount, propNode, keyOffset, keyLength}
+use Rattle.tables.specs.Property.{Property, isProperty, lookup}
 
 -- the test of a range of the pool
 module _ (pool : List ℕ) (offset len : ℕ) (bytes : List ℕ) where
@@ -110,17 +109,3 @@ module _ (b : Board) (i : ℕ) (key : List ℕ) where
 
   pub missing-lookup : ((k : ℕ) → Property b i key k → ⊥) → lookup (b .props) (b .pool) i key ≡ Missing
   missing-lookup none = ⊎-elim (λ t. absurd (none (t .0) (t .2 .property))) (λ t. t .0) lookup-cases
-
-  -- where rule 8 is not broken, a record has at most one property of a name, and the lookup finds it
-  module _ (no-repeat : (k : ℕ) → TableRule b 8 k → ⊥) where
-    not-before : {j k : ℕ} → Property b i key j → Property b i key k → j < k → ⊥
-    not-before {j} {k} g h lt = no-repeat k (TableRule.repeatedProperty j k lt (h .inside) (g .node ∙ sym (h .node)) (g .name ∙ sym (h .name)))
-
-    pub property-unique : {j k : ℕ} → Property b i key j → Property b i key k → j ≡ k
-    property-unique {j} {k} g h = ⊎-elim (λ lt. absurd (not-before g h lt)) (⊎-elim (λ e. e) (λ lt. absurd (not-before h g lt))) (compared j k)
-
-    pub lookup-of : {k : ℕ} → Property b i key k → lookup (b .props) (b .pool) i key ≡ At k
-    lookup-of {k} h = at-lookup k (record { property = h; no-lower = λ j lt g. not-before g h lt })
-
-    pub value-unique : {v w : List ℕ} → HasValue b i key v → HasValue b i key w → v ≡ w
-    value-unique g h = sym (g .bytes) ∙ ap (propValue b) (property-unique (g .property) (h .property)) ∙ h .bytes

@@ -19,6 +19,10 @@ pub data Ancestor (nodes : List ℕ) (a : ℕ) : ℕ → Type 0 where
   parent : {i : ℕ} → Child nodes a i → Ancestor nodes a i
   above : {p i : ℕ} → Child nodes p i → Ancestor nodes a p → Ancestor nodes a i
 
+-- whether i is a child of p
+unfoldable pub isChild : List ℕ → ℕ → ℕ → Bool
+isChild nodes p i = cond (ltb i (nodeCount nodes)) (cond (eqb (parentWord nodes i) p) (ltb p i) false) false
+
 -- whether record i has a parent
 unfoldable pub hasParent : List ℕ → ℕ → Bool
 hasParent nodes i = cond (ltb i (nodeCount nodes)) (ltb (parentWord nodes i) i) false

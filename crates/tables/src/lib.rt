@@ -1,22 +1,22 @@
-// A board's three tables, read without trusting them: records, ancestors, properties, and rules 1 to 8.
-mod check;
+// A board's three tables, read without trusting them: records, ancestors, ranges of the pool, properties.
 mod limits;
-mod nodes;
 mod pool;
-mod properties;
 mod property;
-mod shape;
-mod starts;
 mod tree;
 mod words;
 
-pub use check::table_fault;
+pub use limits::MAX_NODE_NAME;
 pub use limits::MAX_NODES;
+pub use limits::MAX_POOL;
 pub use limits::MAX_PROPERTIES;
+pub use limits::MAX_PROPERTY_NAME;
+pub use limits::NO_PARENT;
 pub use pool::cell_at;
+pub use pool::is_inside;
 pub use pool::range_is;
 pub use property::find_property;
 pub use tree::is_below;
+pub use tree::is_child;
 pub use tree::name_is;
 pub use tree::parent_of;
 pub use words::node_count;

@@ -5,7 +5,6 @@ ghost use lib.Dec.{leb};
 ghost use Rattle.laws.specs.Same.{sameList};
 ghost use Rattle.tables.specs.Board.{rangeIs};
 ghost use Rattle.tables.specs.Property.{cellAt};
-ghost use Rattle.tables.specs.Check.{soundName};
 
 // Whether two byte strings are equal, four bytes at a time as long as there are four. Names that begin alike often end
 // apart, so the last four are compared first.
@@ -45,19 +44,6 @@ pub fn is_inside(bytes: usize, offset: usize, len: usize) -> bool
         return false;
     }
     len <= bytes - offset
-}
-
-// Whether a name has 1 to `most` bytes and lies inside a pool of so many bytes.
-pub fn sound_name(bytes: usize, most: usize, offset: usize, len: usize) -> bool
-    ensures { λ r. ⌜ r ≡ soundName bytes most offset len ⌝ }
-{
-    if len == 0 {
-        return false;
-    }
-    if most < len {
-        return false;
-    }
-    is_inside(bytes, offset, len)
 }
 
 // Whether a range lies inside the pool and holds the given bytes.

@@ -5,7 +5,7 @@ use crate::words::node_word;
 use crate::words::wide;
 ghost use mathlib.Core.Path.{_≡_};
 ghost use Rattle.tables.specs.Board.{nameOffset, nameLength, rangeIs};
-ghost use Rattle.tables.specs.Tree.{parentOf, isBelow, isAtOrBelow};
+ghost use Rattle.tables.specs.Tree.{isChild, parentOf, isBelow, isAtOrBelow};
 
 // The parent of record i. A record outside the table has none, nor has one whose parent word is not below its number.
 pub fn parent_of(nodes: &[u32], i: usize) -> Parent
@@ -19,6 +19,19 @@ pub fn parent_of(nodes: &[u32], i: usize) -> Parent
         return Parent::Top;
     }
     Parent::Is(word)
+}
+
+// Whether record i is a child of record p.
+pub fn is_child(nodes: &[u32], p: usize, i: usize) -> bool
+    ensures { λ r. ⌜ r ≡ isChild (now (nodes .entry)) p i ⌝ }
+{
+    if nodes.len() / 3 <= i {
+        return false;
+    }
+    if node_word(nodes, i, 0) != p {
+        return false;
+    }
+    p < i
 }
 
 // Whether record p is record a or below it. Ancestors have smaller numbers: at a record not after a the search ends.

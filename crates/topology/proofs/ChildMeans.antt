@@ -13,8 +13,8 @@ use Rattle.laws.proofs.ListingLaws.{listed, listing-unique}
 use Rattle.laws.proofs.DecideLaws.{Decides, decides-as, decides-not}
 use Rattle.tables.specs.Tree.{Child}
 use Rattle.tables.proofs.DepthLaws.{DepthFirst, first-child}
-use Rattle.cpus.specs.Check.{isChild}
-use Rattle.cpus.proofs.CpuMeans.{child-test}
+use Rattle.tables.specs.Tree.{isChild}
+use Rattle.tables.proofs.DecideLaws.{child-test}
 use Rattle.topology.specs.Check.{hasChild}
 
 module _ (nodes : List ℕ) where

@@ -15,15 +15,13 @@ use Rattle.names.specs.declared.TopologyName.the-variants.{Socket, Cluster, Cor
 use Rattle.names.specs.Name.{nameOf}
 use Rattle.tables.specs.Board.{nodeCount, range, parentWord, nameOffset, nameLength}
 use Rattle.tables.specs.declared.Parent.the-variants.{Is, Top}
-use Rattle.tables.specs.Tree.{parentOf, climb, isBelow, Child, Ancestor}
+use Rattle.tables.specs.Tree.{isChild, parentOf, climb, isBelow, Child, Ancestor}
 use Rattle.tables.proofs.TreeLaws.{parent-is, parent-top, the-parent, climb-parent, climb-none, climb-keeps, below-ancestor}
-use Rattle.cpus.specs.declared.Cell.{Cell}
-use Rattle.cpus.specs.Check.{isChild}
 use Rattle.topology.specs.declared.ClusterPath.{ClusterPath}
 use Rattle.topology.specs.declared.Position.{Position}
 use Rattle.topology.specs.Path.{gap, topologyName, noClusters, extend, clusterStep, clusterPath, socketStep, socketNumber, noPosition, positionStep, positionOf}
 use Rattle.topology.specs.Find.{mapOf, secondMapFault, mapFault, mapScan}
-use Rattle.topology.specs.Check.{hasChild, kindNumber, kindFault, numberFault, leafCpu, shapeFault, broken, leafCheck, isLeafName, mapRecordFault, mapRecordCheck}
+use Rattle.topology.specs.Check.{hasChild, kindNumber, kindFault, numberFault, shapeFault, isLeafName, mapRecordFault, shape, mapRecordShape}
 use Rattle.laws.proofs.PassLaws.{count-none}
 
 -- a position from its parts
@@ -175,21 +173,15 @@ named-fault nodes pool map i name ne e =
     rw (ne-eqb (kindNumber name) 0 ne)
     (ap (λ (q : ℕ). orNumber (kindFault nodes pool map q name) (orNumber (numberFault nodes q i name) (shapeFault nodes pool q i name))) e)
 
--- rules 19 to 24 at a record below the map with a given name
-module _ (nodes : List ℕ) (cells : ℕ → Cell) (pool : List ℕ) (map : ℕ) (phandles : List ℕ) (i : ℕ) {name : TopologyName} {v : ℕ} (n : name ≡ topologyName nodes pool i) (e : v ≡ mapRecordFault nodes pool map i name) where
+-- the shape of a record below the map with a given name
+module _ (nodes pool : List ℕ) (map i : ℕ) {name : TopologyName} {v : ℕ} (n : name ≡ topologyName nodes pool i) (e : v ≡ mapRecordFault nodes pool map i name) where
   fault : v ≡ mapRecordFault nodes pool map i (topologyName nodes pool i)
   fault = e ∙ ap (mapRecordFault nodes pool map i) n
 
-  pub shape-told : (v ≡ 0 → ⊥) → broken v (length phandles) ≡ mapRecordCheck nodes cells pool map phandles i
-  unfolding mapRecordCheck
-  shape-told ne = rw (← fault, ne-eqb v 0 ne)
+  pub fault-told : (v ≡ 0 → ⊥) → shape v false ≡ mapRecordShape nodes pool map i
+  unfolding mapRecordShape
+  fault-told ne = rw (← fault, ne-eqb v 0 ne)
 
-  leaf-or-not : {b : Bool} → v ≡ 0 → b ≡ isLeafName nodes i name → cond b (leafCheck (length phandles) (leafCpu cells phandles i)) (broken 0 (length phandles)) ≡ mapRecordCheck nodes cells pool map phandles i
-  unfolding mapRecordCheck
-  leaf-or-not z l = rw (eq-eqb _ _ (sym fault ∙ z)) (ap (λ (b : Bool). cond b (leafCheck (length phandles) (leafCpu cells phandles i)) (broken 0 (length phandles))) (l ∙ ap (isLeafName nodes i) n))
-
-  pub leaf-told : {b : Bool} → v ≡ 0 → b ≡ isLeafName nodes i name → b ≡ true → leafCheck (length phandles) (leafCpu cells phandles i) ≡ mapRecordCheck nodes cells pool map phandles i
-  leaf-told z l t = leaf-or-not z (sym t ∙ l)
-
-  pub inner-told : {b : Bool} → v ≡ 0 → b ≡ isLeafName nodes i name → b ≡ false → broken 0 (length phandles) ≡ mapRecordCheck nodes cells pool map phandles i
-  inner-told z l t = leaf-or-not z (sym t ∙ l)
+  pub leaf-told : {b : Bool} → v ≡ 0 → b ≡ isLeafName nodes i name → shape 0 b ≡ mapRecordShape nodes pool map i
+  unfolding mapRecordShape
+  leaf-told z l = rw (eq-eqb _ _ (sym fault ∙ z)) (ap (shape 0) (l ∙ ap (isLeafName nodes i) n))

@@ -21,10 +21,10 @@ use Rattle.names.specs.Kind.{Kind, Named}
 use Rattle.names.specs.Name.{answered}
 use Rattle.tables.specs.Board.{Board, nodeCount, nodeName, parentWord}
 use Rattle.tables.specs.Tree.{Child, Ancestor}
-use Rattle.tables.specs.Rules.{WellFormed}
+use Rattle.wellformed.specs.Rules.{WellFormed}
 use Rattle.tables.proofs.DepthLaws.{child-unique, first-child}
 use Rattle.tables.proofs.TreeLaws.{the-parent}
-use Rattle.tables.proofs.WellFormedLaws.{wf-depth}
+use Rattle.wellformed.proofs.WellFormedLaws.{wf-depth}
 use Rattle.topology.specs.Map.{Map, InMap, Is, FirstChild}
 use Rattle.topology.specs.Path.{topologyName}
 use Rattle.topology.specs.Rules.{MapRule, Allowed}

@@ -11,10 +11,10 @@ use Rattle.laws.proofs.SearchLaws.{true-false, lt-or-le, lowest-below, lowest-p
 use Rattle.laws.proofs.DecideLaws.{Decides, decides-as, decides-not, then-decides}
 use Rattle.tables.specs.Board.{Board, nodeCount, nodeName, nameOffset, nameLength}
 use Rattle.tables.specs.Tree.{isBelow, Child, Ancestor}
-use Rattle.tables.specs.Rules.{WellFormed}
+use Rattle.wellformed.specs.Rules.{WellFormed}
 use Rattle.tables.proofs.DepthLaws.{below-test, ancestor-earlier}
-use Rattle.tables.proofs.WellFormedLaws.{wf-name}
-use Rattle.cpus.proofs.CpuMeans.{child-test, range-test}
+use Rattle.wellformed.proofs.WellFormedLaws.{wf-name}
+use Rattle.tables.proofs.DecideLaws.{child-test, range-test}
 use Rattle.topology.specs.Words.{mapWord}
 use Rattle.topology.specs.Map.{Map, InMap, Outside}
 use Rattle.topology.specs.Find.{isMapName, isMap, mapOf}

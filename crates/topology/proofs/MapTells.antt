@@ -14,8 +14,8 @@ use Rattle.laws.proofs.LeastLaws.{Tested, tested-told, tested-broken}
 use Rattle.laws.proofs.DecideLaws.{eq-decides, lt-decides}
 use Rattle.laws.proofs.TestedLaws.{Decided, decide-cases, tested-unless}
 use Rattle.tables.specs.Board.{Board, nodeCount, nodeName}
-use Rattle.tables.specs.Order.{stage}
-use Rattle.tables.specs.Rules.{WellFormed}
+use Rattle.wellformed.specs.Order.{stage}
+use Rattle.wellformed.specs.Rules.{WellFormed}
 use Rattle.topology.specs.Words.{mapWord}
 use Rattle.topology.specs.Map.{Map}
 use Rattle.topology.specs.Rules.{MapRule}

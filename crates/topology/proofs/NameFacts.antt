@@ -11,8 +11,8 @@ use Rattle.names.specs.Kind.{Kind, Named}
 use Rattle.names.specs.Name.{answered, nameOf, startsWith, numberOf, digitsFrom}
 use Rattle.names.proofs.NameMeans.{name-means, other-means, named-unique}
 use Rattle.tables.specs.Board.{Board, nodeCount, nodeName}
-use Rattle.tables.specs.Rules.{WellFormed}
-use Rattle.tables.proofs.WellFormedLaws.{wf-name}
+use Rattle.wellformed.specs.Rules.{WellFormed}
+use Rattle.wellformed.proofs.WellFormedLaws.{wf-name}
 use Rattle.cpus.specs.Words.{cpusWord}
 use Rattle.cpus.specs.Rules.{CpuRule, SoundCpus}
 use Rattle.topology.specs.Words.{mapWord}

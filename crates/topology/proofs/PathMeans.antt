@@ -14,10 +14,10 @@ use Rattle.names.specs.declared.TopologyName.the-variants.{Socket, Cluster, Cor
 use Rattle.names.specs.Kind.{Kind}
 use Rattle.tables.specs.Board.{Board, nodeCount, parentWord}
 use Rattle.tables.specs.Tree.{hasParent, climb, Child, Ancestor}
-use Rattle.tables.specs.Rules.{WellFormed}
+use Rattle.wellformed.specs.Rules.{WellFormed}
 use Rattle.tables.proofs.TreeLaws.{climb-none}
 use Rattle.tables.proofs.DepthLaws.{ancestor-earlier}
-use Rattle.tables.proofs.WellFormedLaws.{wf-depth}
+use Rattle.wellformed.proofs.WellFormedLaws.{wf-depth}
 use Rattle.topology.specs.declared.ClusterPath.{ClusterPath}
 use Rattle.topology.specs.Map.{Is, ClusterAbove}
 use Rattle.topology.specs.Path.{gap, topologyName, noClusters, extend, clusterStep, clusterPath}

@@ -12,7 +12,7 @@ use Rattle.laws.proofs.ListingLaws.{listing-unique}
 use Rattle.laws.proofs.AppendListingLaws.{listing-same, listing-take}
 use Rattle.names.specs.Kind.{Kind, Named}
 use Rattle.tables.specs.Board.{Board, nodeCount, nodeName}
-use Rattle.tables.specs.Rules.{WellFormed}
+use Rattle.wellformed.specs.Rules.{WellFormed}
 use Rattle.tables.proofs.DepthLaws.{ancestor-earlier}
 use Rattle.topology.specs.declared.ClusterPath.{ClusterPath}
 use Rattle.topology.specs.Map.{Is, ClusterAbove}

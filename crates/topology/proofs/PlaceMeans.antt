@@ -10,7 +10,7 @@ use Rattle.laws.proofs.DecideLaws.{eq-decides}
 use Rattle.laws.proofs.TestedLaws.{tested-unless}
 use Rattle.names.specs.Kind.{Kind}
 use Rattle.tables.specs.Board.{Board, nodeCount}
-use Rattle.tables.specs.Rules.{WellFormed}
+use Rattle.wellformed.specs.Rules.{WellFormed}
 use Rattle.topology.specs.Map.{Map, InMap, Outside, Is}
 use Rattle.topology.specs.Path.{topologyName}
 use Rattle.topology.specs.Rules.{MapRule}

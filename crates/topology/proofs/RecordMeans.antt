@@ -20,10 +20,10 @@ use Rattle.names.specs.Name.{answered}
 use Rattle.names.proofs.NameMeans.{named-unique}
 use Rattle.tables.specs.Board.{Board, nodeName, parentWord}
 use Rattle.tables.specs.Tree.{Child}
-use Rattle.tables.specs.Rules.{WellFormed}
+use Rattle.wellformed.specs.Rules.{WellFormed}
 use Rattle.tables.proofs.DepthLaws.{child-unique}
-use Rattle.tables.proofs.WellFormedLaws.{wf-depth}
-use Rattle.cpus.specs.Check.{isChild}
+use Rattle.wellformed.proofs.WellFormedLaws.{wf-depth}
+use Rattle.tables.specs.Tree.{isChild}
 use Rattle.topology.specs.Map.{Map, InMap, Is, Childless, ClusterAbove}
 use Rattle.topology.specs.Path.{topologyName, clusterPath}
 use Rattle.topology.specs.Rules.{MapRule}

@@ -10,7 +10,7 @@ use lib.ListN.{length}
 use Rattle.laws.specs.Listing.{Listing}
 use Rattle.names.specs.Kind.{Kind, Named}
 use Rattle.tables.specs.Board.{Board, nodeCount, nodeName}
-use Rattle.tables.specs.Order.{stage}
+use Rattle.wellformed.specs.Order.{stage}
 use Rattle.tables.specs.Tree.{Child}
 use Rattle.topology.specs.Words.{mapWord}
 use Rattle.topology.specs.Map.{Map, InMap, Outside, Is, Childless, Leaf, FirstChild, ClusterAbove}

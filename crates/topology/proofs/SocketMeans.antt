@@ -10,10 +10,10 @@ use Rattle.names.specs.Kind.{Kind, Named}
 use Rattle.names.proofs.NameMeans.{named-unique}
 use Rattle.tables.specs.Board.{Board, nodeCount, nodeName}
 use Rattle.tables.specs.Tree.{hasParent, climb, Child}
-use Rattle.tables.specs.Rules.{WellFormed}
+use Rattle.wellformed.specs.Rules.{WellFormed}
 use Rattle.tables.proofs.TreeLaws.{climb-none}
 use Rattle.tables.proofs.DepthLaws.{ancestor-earlier}
-use Rattle.tables.proofs.WellFormedLaws.{wf-depth}
+use Rattle.wellformed.proofs.WellFormedLaws.{wf-depth}
 use Rattle.topology.specs.Map.{Is}
 use Rattle.topology.specs.Path.{gap, topologyName, socketStep, socketNumber}
 use Rattle.topology.proofs.NameFacts.{Says, topology-says, kinds-apart}

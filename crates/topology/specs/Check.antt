@@ -1,23 +1,15 @@
--- Rules 18 to 25 at one record.
+-- Rules 18 to 23 at one record.
 use mathlib.Core.Bool.{Bool, true, false, cond}
 use mathlib.Core.List.{List}
 use Prim.Native.Nat.{ℕ, _+_}
 use lib.Dec.{eqb, ltb}
-use lib.ListN.{length}
 use Rattle.laws.specs.Fault.{orNumber}
-use Rattle.laws.specs.Search.{placeIn, countBelow}
+use Rattle.laws.specs.Search.{countBelow}
 use Rattle.names.specs.declared.TopologyName.{TopologyName}
 use Rattle.names.specs.declared.TopologyName.the-variants.{Socket, Cluster, Core, Thread, Other}
 use Rattle.tables.specs.Board.{parentWord}
-use Rattle.tables.specs.Tree.{isBelow}
-use Rattle.keys.specs.declared.Key.the-variants.{Cpu}
-use Rattle.keys.specs.Key.{cpuKey}
-use Rattle.keys.specs.Index.{keyAt}
-use Rattle.cpus.specs.declared.Cell.{Cell}
-use Rattle.cpus.specs.declared.Cell.the-variants as cell
-use Rattle.cpus.specs.Cell.{cellIn, cellOf}
-use Rattle.cpus.specs.Check.{isChild}
-use Rattle.topology.specs.declared.RecordCheck.{RecordCheck}
+use Rattle.tables.specs.Tree.{isBelow, isChild}
+use Rattle.topology.specs.declared.RecordShape.{RecordShape}
 use Rattle.topology.specs.Path.{topologyName, clusterPath}
 
 -- whether the record after i is its child; in a depth-first table, whether i has children
@@ -78,36 +70,12 @@ kindFault nodes pool map p name =
 unfoldable pub numberFault : List ℕ → ℕ → ℕ → TopologyName → ℕ
 numberFault nodes p i name = cond (eqb (topologyNumber name) (countBelow (isChild nodes p) i)) 0 21
 
--- the index of the phandle that a leaf's `cpu` holds, or their number where it holds none
-abbrev pub indexOf : List ℕ → Cell → ℕ
-indexOf phandles (cell.Is w) = placeIn phandles w
-indexOf phandles cell.Not = length phandles
-
--- the same of leaf i, by the cells of the records' `cpu`
-unfoldable pub leafCpu : (ℕ → Cell) → List ℕ → ℕ → ℕ
-leafCpu cells phandles i = indexOf phandles (cells i)
-
--- the cell of each record's `cpu`, looked up
-abbrev pub cpuCells : List ℕ → List ℕ → ℕ → Cell
-cpuCells props pool i = cellOf props pool i cpuKey
-
--- the same, by a table of keys
-abbrev pub keyCells : List ℕ → List ℕ → List ℕ → ℕ → Cell
-keyCells props pool keys i = cellIn props pool (keyAt keys i Cpu)
-
 -- rule 23, and 22 of a cluster under parent p
 abbrev pub groupFault : List ℕ → ℕ → ℕ
 groupFault nodes i = cond (hasChild nodes i) 0 23
 
 unfoldable pub depthFault : List ℕ → List ℕ → ℕ → ℕ
 depthFault nodes pool p = cond (ltb (clusterPath nodes pool p .depth) 4) 0 22
-
-abbrev pub broken : ℕ → ℕ → RecordCheck
-broken number none = record { number = number; leaf = false; cpu = none }
-
--- a leaf and the cpu that it names: rule 24
-abbrev pub leafCheck : ℕ → ℕ → RecordCheck
-leafCheck none k = cond (ltb k none) (record { number = 0; leaf = true; cpu = k }) (broken 24 none)
 
 -- a leaf of a name: a thread, or a core without children
 abbrev pub isLeafName : List ℕ → ℕ → TopologyName → Bool
@@ -132,17 +100,20 @@ mapRecordFault nodes pool map i name =
     (orNumber (kindFault nodes pool map (parentWord nodes i) name)
     (orNumber (numberFault nodes (parentWord nodes i) i name) (shapeFault nodes pool (parentWord nodes i) i name)))
 
--- what record i, below the map, breaks of 19 to 24, and the cpu that it names where it is a leaf
-unfoldable pub mapRecordCheck : List ℕ → (ℕ → Cell) → List ℕ → ℕ → List ℕ → ℕ → RecordCheck
-mapRecordCheck nodes cells pool map phandles i =
-    cond (eqb (mapRecordFault nodes pool map i (topologyName nodes pool i)) 0)
-    (cond (isLeafName nodes i (topologyName nodes pool i)) (leafCheck (length phandles) (leafCpu cells phandles i)) (broken 0 (length phandles)))
-    (broken (mapRecordFault nodes pool map i (topologyName nodes pool i)) (length phandles))
+-- what a record breaks of 18 to 23, 0 where nothing, and whether it is a leaf
+abbrev pub shape : ℕ → Bool → RecordShape
+shape number leaf = record { number = number; leaf = leaf }
 
--- what record i breaks of 18 to 24, and the cpu that it names where it is a leaf
-unfoldable pub recordCheck : List ℕ → (ℕ → Cell) → List ℕ → ℕ → List ℕ → ℕ → RecordCheck
-recordCheck nodes cells pool map phandles i =
-    cond (eqb i 0) (broken 0 (length phandles))
-    (cond (eqb i map) (broken (groupFault nodes i) (length phandles))
-    (cond (isBelow nodes i map) (mapRecordCheck nodes cells pool map phandles i)
-    (broken (cond (eqb (kindNumber (topologyName nodes pool i)) 0) 0 18) (length phandles))))
+-- of record i below the map
+unfoldable pub mapRecordShape : List ℕ → List ℕ → ℕ → ℕ → RecordShape
+mapRecordShape nodes pool map i =
+    let name = topologyName nodes pool i in
+    cond (eqb (mapRecordFault nodes pool map i name) 0) (shape 0 (isLeafName nodes i name)) (shape (mapRecordFault nodes pool map i name) false)
+
+-- of any record i: record 0, the map, a record below it, a record outside it
+unfoldable pub recordShape : List ℕ → List ℕ → ℕ → ℕ → RecordShape
+recordShape nodes pool map i =
+    cond (eqb i 0) (shape 0 false)
+    (cond (eqb i map) (shape (groupFault nodes i) false)
+    (cond (isBelow nodes i map) (mapRecordShape nodes pool map i)
+    (shape (cond (eqb (kindNumber (topologyName nodes pool i)) 0) 0 18) false)))

@@ -7,7 +7,7 @@ use Rattle.laws.specs.declared.Fault.{Fault}
 use Rattle.laws.specs.Fault.{told, orElse, firstFault}
 use Rattle.laws.specs.Search.{lowest}
 use Rattle.tables.specs.Board.{nodeCount, nameOffset, nameLength, rangeIs}
-use Rattle.cpus.specs.Check.{isChild}
+use Rattle.tables.specs.Tree.{isChild}
 use Rattle.topology.specs.declared.MapScan.{MapScan}
 use Rattle.topology.specs.Words.{mapWord}
 

@@ -5,5 +5,3 @@ pub mod Rules
 pub mod Path
 pub mod Find
 pub mod Check
-pub mod Scan
-pub mod Pass

@@ -1,10 +1,10 @@
 // Finding the map: rules 15 and 16.
 use crate::MapScan;
-use cpus::is_child;
 use laws::Fault;
 use laws::NO_MAP;
 use laws::SECOND_MAP;
 use tables::cell_at;
+use tables::is_child;
 use tables::node_word;
 ghost use mathlib.Core.Path.{_≡_};
 ghost use Rattle.laws.specs.Fault.{firstFault};

@@ -1,12 +1,9 @@
-// The cpu map: its place, its records' kinds, numbers and depth, its leaves and the cpu records that they name: rules 15, 16, 18 to 26.
-mod check;
+// The cpu map: its place, and its records' names, kinds, numbers and depth: rules 15, 16 and 18 to 23.
 mod find;
-mod gather;
 mod kind;
-mod leaf;
 mod path;
 mod positions;
-mod scan;
+mod record;
 mod shape;
 
 pub use find::find_map;
@@ -14,7 +11,7 @@ pub use kind::topology_number;
 pub use path::GAP;
 pub use path::topology_name;
 pub use positions::position_of;
-pub use scan::read_tree;
+pub use record::record_shape;
 
 // A cluster path: four numbers, outermost first, 0xFFFFFFFF where unused, and how many are used.
 pub struct ClusterPath {
@@ -35,16 +32,8 @@ pub struct MapScan {
     pub map: usize,
 }
 
-// What a record of the tree breaks, 0 where nothing, and which cpu it names, by its index among the cpu records, where it is a leaf.
-pub struct RecordCheck {
+// What a record breaks of 18 to 23, 0 where nothing, and whether it is a leaf.
+pub struct RecordShape {
     pub number: u32,
     pub leaf: bool,
-    pub cpu: usize,
-}
-
-// How many leaves a map has, or the number and the place of the first of rules 18 to 26 that is broken.
-pub struct TreeScan {
-    pub number: u32,
-    pub place: usize,
-    pub count: usize,
 }

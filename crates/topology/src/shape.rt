@@ -1,17 +1,17 @@
 // Numbers of siblings, depth of clusters and groups without children: rules 21 to 23.
 use crate::kind::topology_number;
 use crate::positions::position_of;
-use cpus::is_child;
 use laws::BAD_MAP_NAME;
 use laws::BAD_NUMBER;
 use laws::NO_CHILDREN;
 use laws::TOO_DEEP;
 use names::TopologyName;
+use tables::is_child;
 ghost use mathlib.Core.Path.{_≡_};
 ghost use Prim.Native.Nat.{_<_};
 ghost use Rattle.laws.specs.Fault.{orNumber};
 ghost use Rattle.laws.specs.Search.{countBelow};
-ghost use Rattle.cpus.specs.Check.{isChild};
+ghost use Rattle.tables.specs.Tree.{isChild};
 ghost use Rattle.topology.specs.Check.{hasChild, numberFault, groupFault, depthFault, shapeFault};
 
 // Whether the record after i is its child. In a depth-first table: whether i has children.

@@ -4,6 +4,7 @@ use mathlib.Core.List.{List, map}
 use Prim.Native.Nat.{ℕ, zero, suc, _≤_}
 use native.Mathlib.Omega.{arith}
 use lib.ListN.{length, take, replicate, length-map, length-replicate}
+use lib.Seq.{take-all}
 use borrow.Author.Tests.{eq-eqb}
 use Rattle.laws.specs.declared.Fault.{Fault}
 use Rattle.laws.specs.Fault.{told}
@@ -12,20 +13,20 @@ use Rattle.laws.proofs.FaultLaws.{or-second}
 use Rattle.laws.proofs.OrElseLaws.{told-number}
 use Rattle.laws.proofs.OverLaws.{over-length}
 use Rattle.tables.specs.Board.{Board, board}
-use Rattle.tables.specs.Rules.{WellFormed}
-use Rattle.tables.specs.Check.{tableFault}
-use Rattle.tables.proofs.RuleLaws.{table-sound}
+use Rattle.wellformed.specs.Rules.{WellFormed}
+use Rattle.wellformed.specs.Check.{tableFault}
+use Rattle.wellformed.proofs.RuleLaws.{table-sound}
 use Rattle.cpus.specs.Rules.{maxCpus}
 use Rattle.cpus.specs.Check.{rootFault, addressCells, cpuCount, cpuList, countFault, cpuFault, phandlesFault, phandleList, mpidrList}
 use Rattle.cpus.specs.declared.Wanted.the-variants.{Mpidrs, Phandles}
 use Rattle.cpus.proofs.CpuMeans.{cpu-count}
 use Rattle.cpus.proofs.RootLaws.{count-fits, cells-broken, cells-sound}
 use Rattle.topology.specs.declared.MapScan.{MapScan}
-use Rattle.topology.specs.declared.TreeScan.{TreeScan}
+use Rattle.leaves.specs.declared.TreeScan.{TreeScan}
 use Rattle.topology.specs.Find.{mapOf}
-use Rattle.topology.specs.Check.{keyCells}
-use Rattle.topology.specs.Scan.{Tree, tree, leavesFault, treeScan, leavesOver, namedOver, treeOf, leavesOf, namedOf}
-use Rattle.topology.proofs.ScanLaws.{leaves-listed, named-listed}
+use Rattle.leaves.specs.Check.{keyCells}
+use Rattle.leaves.specs.Scan.{Tree, tree, leavesFault, treeScan, leavesOver, namedOver, treeOf, leavesOf, namedOf}
+use Rattle.leaves.proofs.ScanLaws.{leaves-listed, named-listed}
 use Rattle.board.specs.Survey.{surveyFault, surveyOf}
 use Rattle.board.proofs.FrontLaws.{front-fits, front-size, front-is}
 use Rattle.board.proofs.ReadLaws.{map-number, map-place, map-root}
@@ -41,9 +42,9 @@ use Rattle.cpus.proofs.list_cpus.Reads as list-cpus-reads
 use Rattle.cpus.proofs.read_cells.Reads as read-cells-reads
 use Rattle.cpus.proofs.read_numbers.Reads as read-numbers-reads
 use Rattle.keys.proofs.index_keys.Reads as index-keys-reads
-use Rattle.tables.proofs.table_fault.Reads as table-fault-reads
+use Rattle.wellformed.proofs.table_fault.Reads as table-fault-reads
 use Rattle.topology.proofs.find_map.Reads as find-map-reads
-use Rattle.topology.proofs.read_tree.Reads as read-tree-reads
+use Rattle.leaves.proofs.read_tree.Reads as read-tree-reads
 
 -- the board at each call; the stages before it told nothing
 abbrev b1 : tie.After-table-fault → Board
@@ -212,8 +213,14 @@ module _ (c : tie.After-read-tree) where
   abbrev found : tie.After-find-map
   found = asked e6 .before .before .before .before .before
 
-  phandles-are : take (at-count (read (asked e6)) .before .before .list-cpus .result) (asked e6 .read-numbers2 .last .1 .1 .1 .1 .1 .0) ≡ phandles e6
-  phandles-are = front-is _ _ (phandles-laid (asked e6) (clear-phandles e6)) (as-many e6) (few-phandles e6)
+  abbrev lent : List ℕ
+  lent = take (at-count (read (asked e6)) .before .before .list-cpus .result) (asked e6 .read-numbers2 .last .1 .1 .1 .1 .1 .0)
+
+  lent-are : lent ≡ phandles e6
+  lent-are = front-is _ _ (phandles-laid (asked e6) (clear-phandles e6)) (as-many e6) (few-phandles e6)
+
+  phandles-are : take maxCpus lent ≡ phandles e6
+  phandles-are = ap (take maxCpus) lent-are ∙ take-all maxCpus (phandles e6) (omega (arith, few-phandles e6, length-replicate {A = ℕ} 256 0))
 
   root-is : found .find-map .result .map ≡ mapOf (b8 c .nodes) (b8 c .pool)
   root-is = ap (λ (r : MapScan). r .map) (found .find-map .ensures) ∙ map-root (b8 c .nodes) (b8 c .pool) (clear-map (asked e6 .before .before .before))
@@ -224,7 +231,7 @@ module _ (c : tie.After-read-tree) where
   abbrev theTree : Tree
   theTree =
       tree (b8 c .nodes) (keyCells (b8 c .props) (b8 c .pool) (indexed keyed .index-keys .last .1 .1 .0)) (b8 c .pool) (found .find-map .result .map)
-      (take (count (wholes keyed)) (asked e6 .read-numbers2 .last .1 .1 .1 .1 .1 .0))
+      (take maxCpus lent)
 
   tree-here : theTree ≡ treeOf (b8 c)
   tree-here = tree-is (b8 c) (well-5 keyed) (indexed keyed .index-keys .ensures) (listed-is (wholes keyed)) root-is phandles-are
@@ -356,9 +363,7 @@ slice-aggregate-read-tree : tie.Need-slice-aggregate-read-tree
 slice-aggregate-read-tree c = let e = c .before .before in front-size _ _ (phandles-laid (asked e) (clear-phandles e)) (as-many e) (few-phandles e)
 
 read-tree-requires : tie.Need-read-tree-requires
-read-tree-requires c κs =
-    let e = c .before .before .before .before in
-    omega (arith, front-size _ _ (phandles-laid (asked e) (clear-phandles e)) (as-many e) (few-phandles e), as-many e, few-phandles e, length-replicate {A = ℕ} 256 0)
+read-tree-requires c κs = search needs
 
 stop-requires-7 : tie.Need-stop-requires-7
 stop-requires-7 c κs = search needs

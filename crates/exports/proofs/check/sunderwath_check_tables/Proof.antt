@@ -4,7 +4,7 @@ use native.Mathlib.Omega.{arith}
 use lib.ListN.{length}
 use borrow.Author.Tests.{lt-ltb, le-ltb}
 use Rattle.tables.specs.Board.{board}
-use Rattle.tables.proofs.RuleLaws.{table-place}
+use Rattle.wellformed.proofs.RuleLaws.{table-place}
 use borrow.Author.Needs.{needs}
 use Rattle.exports.proofs.check.sunderwath_check_tables.Statement.{statement}
 use Rattle.exports.proofs.check.sunderwath_check_tables.Tie as tie
@@ -12,7 +12,7 @@ use Rattle.exports.proofs.check.sunderwath_check_tables.Reads as reads
 use Rattle.exports.proofs.check.sunderwath_check_tables.Lts as lts
 use Rattle.exports.proofs.answer.no_hash.Reads as no-hash-reads
 use Rattle.exports.proofs.answer.put_answer.Reads as put-answer-reads
-use Rattle.tables.proofs.table_fault.Reads as table-fault-reads
+use Rattle.wellformed.proofs.table_fault.Reads as table-fault-reads
 
 -- src/check.rt:31:9
 returns : tie.Need-returns

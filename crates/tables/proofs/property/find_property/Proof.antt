@@ -1,12 +1,11 @@
 -- `find_property` finds the lowest property of that name: none of the `count - left` records tested is one. Assumes nothing.
-use mathlib.Core.Path.{_≡_, refl, sym, _∙_}
-use mathlib.Core.Logic.{⊎-elim}
+use mathlib.Core.Path.{_≡_, sym, _∙_}
 use Prim.Native.Nat.{_≤_, _-_}
 use native.Mathlib.Omega.{arith}
 use borrow.Author.Needs.{needs}
 use Rattle.laws.specs.Search.{lowest}
 use Rattle.tables.specs.Property.{isProperty}
-use Rattle.tables.proofs.CodeLookup.{found-at, found-none, none-more, none-yet, other-property, tested-property}
+use Rattle.tables.proofs.CodeLookup.{found-at, found-none, none-more, none-yet}
 use Rattle.tables.proofs.property.find_property.Statement.{statement}
 use Rattle.tables.proofs.property.find_property.Tie as tie
 
@@ -19,39 +18,16 @@ abbrev μ-loop : tie.MeasureT-loop
 loop-holds : tie.Need-loop-holds Inv-loop μ-loop
 loop-holds c = (omega arith, none-yet _ _ _ _ _ (omega arith))
 
-sub-at : tie.Need-sub-at Inv-loop μ-loop
-sub-at c = search needs
+sub-k : tie.Need-sub-k Inv-loop μ-loop
+sub-k c = search needs
 
-mul-at : tie.Need-mul-at Inv-loop μ-loop
-mul-at c = search needs
-
-may-be-requires : tie.Need-may-be-requires Inv-loop μ-loop
-may-be-requires c κs = search needs
-
-add-wide : tie.Need-add-wide Inv-loop μ-loop
-add-wide c = search needs
-
-mul-wide : tie.Need-mul-wide Inv-loop μ-loop
-mul-wide c = search needs
-
-shared-slice-read-wide : tie.Need-shared-slice-read-wide Inv-loop μ-loop
-shared-slice-read-wide c = search needs
-
-wide-requires : tie.Need-wide-requires Inv-loop μ-loop
-wide-requires c κs = search needs
-
-range-is-requires : tie.Need-range-is-requires Inv-loop μ-loop
-range-is-requires c κs = search needs
+is-property-requires : tie.Need-is-property-requires Inv-loop μ-loop
+is-property-requires c κs = search needs
 
 returns : tie.Need-returns Inv-loop μ-loop
 returns c =
-    let name = c .before in
-    let may = name .before .before .before in
-    let call = may .before in
-    let loop = call .before .before .loop in
-    let whole = may-be-requires (call .before) (call .may-be .lifetimes) .0 in
-    let test = tested-property _ _ _ _ _ _ whole (call .may-be .ensures) (may .if1 .taken) (name .before .wide .ensures) (name .range-is .ensures) in
-    found-at _ _ _ _ _ _ (loop .inv .1) (sym test ∙ c .if2 .taken) (omega arith) (omega arith)
+    let call = c .before in
+    found-at _ _ _ _ _ (call .before .before .loop .inv .1) (sym (call .is-property .ensures) ∙ c .if1 .taken) (omega arith)
 
 sub-left : tie.Need-sub-left Inv-loop μ-loop
 sub-left c = search needs
@@ -62,16 +38,7 @@ loop-less c = search needs
 loop-again : tie.Need-loop-again Inv-loop μ-loop
 loop-again c =
     let call = c .before in
-    let loop = call .before .before .loop in
-    let whole = may-be-requires (call .before) (call .may-be .lifetimes) .0 in (
-      omega arith,
-      none-more _ _ _ _ _ _ _ (loop .inv .1)
-          (⊎-elim
-          (λ w. sym (tested-property _ _ _ _ _ _ whole (call .may-be .ensures) (w .0 .taken) (w .2 .ensures) (w .3 .ensures)) ∙ w .4 .left)
-          (λ w. other-property _ _ _ _ _ _ refl (call .may-be .ensures) (w .left))
-          (c .if1 .came))
-          (omega arith) (omega arith),
-    )
+    (omega arith, none-more _ _ _ _ _ _ (call .before .before .loop .inv .1) (sym (call .is-property .ensures) ∙ c .if1 .left) (omega arith))
 
 returns-2 : tie.Need-returns-2 Inv-loop μ-loop
 returns-2 c = found-none _ _ _ _ _ (omega arith) (c .before .loop .inv .1)
@@ -83,14 +50,8 @@ find-property-spec =
     Inv-loop
     μ-loop
     loop-holds
-    sub-at
-    mul-at
-    may-be-requires
-    add-wide
-    mul-wide
-    shared-slice-read-wide
-    wide-requires
-    range-is-requires
+    sub-k
+    is-property-requires
     returns
     sub-left
     loop-less

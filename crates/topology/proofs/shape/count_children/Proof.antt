@@ -6,7 +6,7 @@ use native.Mathlib.Omega.{arith}
 use borrow.Author.Needs.{needs}
 use Rattle.laws.specs.Search.{countBelow}
 use Rattle.laws.proofs.SearchLaws.{count-yes, count-no, count-le}
-use Rattle.cpus.specs.Check.{isChild}
+use Rattle.tables.specs.Tree.{isChild}
 use Rattle.topology.proofs.CodeLaws.{no-children}
 use Rattle.topology.proofs.shape.count_children.Statement.{statement}
 use Rattle.topology.proofs.shape.count_children.Tie as tie

@@ -1,0 +1,93 @@
+-- The check answers as leaves the leaves that name a cpu record. Assumes well-formed tables and phandles.
+use mathlib.Core.Path.{_≡_, refl, sym, ap, _∙_}
+use mathlib.Core.Bool.{Bool, true, false, cond}
+use Prim.Native.Nat.{ℕ, _<_}
+use native.Mathlib.Omega.{arith}
+use lib.ListN.{length}
+use Rattle.laws.proofs.SearchLaws.{true-false}
+use Rattle.names.specs.declared.TopologyName.{TopologyName}
+use Rattle.names.specs.Kind.{Kind}
+use Rattle.tables.specs.Board.{Board, Typed, nodeCount}
+use Rattle.wellformed.specs.Rules.{WellFormed}
+use Rattle.tables.proofs.DepthLaws.{below-test, ancestor-earlier, ancestor-inside}
+use Rattle.wellformed.proofs.WellFormedLaws.{wf-depth}
+use Rattle.cpus.specs.Rules.{CpuRule}
+use Rattle.cpus.specs.Check.{cpuList}
+use Rattle.leaves.specs.declared.RecordCheck.{RecordCheck}
+use Rattle.topology.specs.Map.{Map, InMap, Leaf, Names}
+use Rattle.topology.specs.Path.{topologyName}
+use Rattle.topology.specs.Check.{hasChild, isLeafName}
+use Rattle.leaves.specs.Scan.{Tree, treeAt, check, isLeaf, cpuOf}
+use Rattle.topology.proofs.ChildMeans.{childless-test}
+use Rattle.topology.proofs.NameFacts.{Says, topology-is, topology-says}
+use Rattle.topology.proofs.MapMeans.{in-map-below}
+use Rattle.leaves.proofs.CheckCases.{shapeNumber, answers-number, Under, Checked, checked}
+use Rattle.leaves.proofs.LeafCount.{leaf-is}
+use Rattle.leaves.proofs.PhandleMeans.{cpuAt, cpuIndex, in-cpus}
+use Rattle.leaves.proofs.LeafMeans.{index-names, names-index}
+
+pub leaf-in-map : {b : Board} {i : ℕ} → Leaf b i → InMap b i
+leaf-in-map (Leaf.aThread s _) = s
+leaf-in-map (Leaf.aCore s _ _) = s
+
+pub in-map-inside : {b : Board} {i : ℕ} → InMap b i → i < nodeCount (b .nodes)
+in-map-inside s = ancestor-inside (s .below)
+
+-- the names of leaves
+module _ {b : Board} (well : WellFormed b) (i : ℕ) where
+  pub name-leaf : InMap b i → isLeafName (b .nodes) i (topologyName (b .nodes) (b .pool) i) ≡ true → Leaf b i
+  name-leaf s = go (topology-says b well i (in-map-inside s))
+    where
+      childless : (t : Bool) → hasChild (b .nodes) i ≡ t → cond t false true ≡ true → hasChild (b .nodes) i ≡ false
+      childless true e h = true-false h refl
+      childless false e h = e
+
+      go : {x : TopologyName} → Says b i x → isLeafName (b .nodes) i x ≡ true → Leaf b i
+      go (Says.socket n p) h = true-false h refl
+      go (Says.cluster n p) h = true-false h refl
+      go (Says.core n p) h = Leaf.aCore s (n, p) (childless-test (b .nodes) (wf-depth well) i .0 (childless (hasChild (b .nodes) i) refl h))
+      go (Says.thread n p) h = Leaf.aThread s (n, p)
+      go (Says.other none) h = true-false h refl
+
+  pub leaf-name : Leaf b i → isLeafName (b .nodes) i (topologyName (b .nodes) (b .pool) i) ≡ true
+  leaf-name (Leaf.aThread s t) = rw (topology-is b well i Kind.thread (t .0) (in-map-inside s) .1 (t .1))
+  leaf-name (Leaf.aCore s t none) =
+      rw (topology-is b well i Kind.core (t .0) (in-map-inside s) .1 (t .1), childless-test (b .nodes) (wf-depth well) i .1 none)
+
+-- a record under the map
+module _ {b : Board} {m : ℕ} (is-map : Map b m) (i : ℕ) where
+  pub under-in-map : Under (treeAt b m) i → InMap b i
+  under-in-map u = record { root = m; is-map = is-map; below = below-test m i .0 (u .below) }
+
+  pub in-map-under : InMap b i → Under (treeAt b m) i
+  in-map-under s =
+      let a = in-map-below b m is-map i s in
+      let lt = ancestor-earlier a in
+      record { not-top = λ e. omega arith; not-map = λ e. omega arith; below = below-test m i .1 a }
+
+module _ {b : Board} (typed : Typed b) (well : WellFormed b) (no17 : (p : ℕ) → CpuRule b 17 p → ⊥) {m : ℕ} (is-map : Map b m) (i : ℕ) where
+  abbrev t : Tree
+  t = treeAt b m
+
+  -- a record that the check answers as a leaf is one, and names the cpu record answered
+  pub check-leaf : isLeaf t i ≡ true → Leaf b i × Names b i (cpuAt b (cpuOf t i)) × (cpuOf t i < length (cpuList b))
+  check-leaf h =
+      let n = leaf-is t i h in
+      (name-leaf well i (under-in-map is-map i (n .under)) (n .name), rw (n .cpu) (index-names typed well no17 i (rw (n .cpu) at (n .inside))), in-cpus b (n .inside))
+
+  -- a leaf at which the check answers no number is answered as one
+  pub leaf-check : Leaf b i → check t i .number ≡ 0 → isLeaf t i ≡ true
+  leaf-check l z = go (in-map-under is-map i (leaf-in-map l)) (checked t i)
+    where
+      go : Under t i → Checked t i → isLeaf t i ≡ true
+      go u (Checked.top e a) = absurd (u .not-top e)
+      go u (Checked.map n e a) = absurd (u .not-map e)
+      go u (Checked.outside n k e a) = true-false (u .below) e
+      go u (Checked.misshapen v n a) = absurd (n (sym (answers-number t i (shapeNumber t i) a) ∙ z))
+      go u (Checked.inner v e f a) = true-false (leaf-name well i l) f
+      go u (Checked.nameless v e f le a) = let q = sym (answers-number t i 24 a) ∙ z in absurd (omega arith)
+      go u (Checked.leaf v e f lt a) = ap (λ (r : RecordCheck). r .leaf) a
+
+  -- the cpu answered is the index of the cpu record that the leaf names
+  pub names-cpu : (c : ℕ) → isLeaf t i ≡ true → Names b i c → cpuOf t i ≡ cpuIndex b c
+  names-cpu c h n = leaf-is t i h .cpu ∙ names-index typed well no17 i c n

@@ -1,0 +1,99 @@
+-- What a leaf's `cpu` says: the cpu record that it names. Assumes well-formed tables and phandles.
+use mathlib.Core.Path.{_≡_, refl, sym, _∙_}
+use mathlib.Core.Bool.{Bool}
+use mathlib.Core.Logic.{⊎-elim}
+use Prim.Native.Nat.{ℕ, _≤_, _<_}
+use native.Mathlib.Omega.{arith}
+use lib.Dec.{eqb}
+use lib.ListN.{length, getD}
+use borrow.Author.Tests.{eq-eqb, eqb-true}
+use Rattle.laws.specs.Search.{lowest}
+use Rattle.laws.proofs.SearchLaws.{true-false, lt-or-le, lowest-below, lowest-passes}
+use Rattle.tables.specs.Board.{Board, Typed}
+use Rattle.tables.specs.Property.{cellBytes}
+use Rattle.wellformed.specs.Rules.{WellFormed}
+use Rattle.keys.specs.Key.{cpuKey}
+use Rattle.cpus.specs.declared.Cell.{Cell}
+use Rattle.cpus.specs.declared.Cell.the-variants.{Is, Not}
+use Rattle.cpus.specs.Node.{Phandle}
+use Rattle.cpus.specs.Rules.{CpuRule}
+use Rattle.cpus.specs.Cell.{cellOf}
+use Rattle.cpus.specs.Check.{cpuList, phandleList}
+use Rattle.cpus.proofs.ValueMeans.{value-unique, cell-test, test-cell}
+use Rattle.topology.specs.Map.{Names}
+use Rattle.leaves.specs.Check.{indexOf, leafCpu, cpuCells}
+use Rattle.leaves.proofs.PhandleMeans.{cpuAt, cpuIndex, in-cpus, in-phandles, cpu-index, index-cpu, phandle-at, index-apart}
+
+-- the index that a record's `cpu` gives
+abbrev pub namedIndex : Board → ℕ → ℕ
+namedIndex b i = leafCpu (cpuCells (b .props) (b .pool)) (phandleList b) i
+
+module _ {b : Board} (typed : Typed b) (well : WellFormed b) (no17 : (p : ℕ) → CpuRule b 17 p → ⊥) where
+  -- it is that of a cpu record which the record names ..
+  pub index-names : (i : ℕ) → namedIndex b i < length (phandleList b) → Names b i (cpuAt b (namedIndex b i))
+  unfolding leafCpu
+  index-names i = go (cellOf (b .props) (b .pool) i cpuKey) refl
+    where
+      go : (x : Cell) → cellOf (b .props) (b .pool) i cpuKey ≡ x → indexOf (phandleList b) x < length (phandleList b) → Names b i (cpuAt b (indexOf (phandleList b) x))
+      go Not e lt = absurd (omega arith)
+      go (Is w) e lt =
+          let test : ℕ → Bool = λ j. eqb (getD (phandleList b) j 0) w in
+          let k = lowest test (length (phandleList b)) in
+          let same : getD (phandleList b) k 0 ≡ w = eqb-true _ _ (lowest-passes test (length (phandleList b)) lt) in
+          record {
+            value = cellBytes w;
+            four = refl;
+            cpu = cell-test typed well i cpuKey e .0;
+            is-cpu = index-cpu well k (in-cpus b lt);
+            phandle = rw same at (phandle-at typed well no17 k (in-cpus b lt) .value);
+          }
+
+  -- .. and a record that names a cpu record gives its index
+  pub names-index : (i c : ℕ) → Names b i c → namedIndex b i ≡ cpuIndex b c
+  unfolding leafCpu
+  names-index i c n = rw cell-is found
+    where
+      k : ℕ
+      k = cpuIndex b c
+
+      h : ℕ
+      h = getD (phandleList b) k 0
+
+      in-k : k < length (cpuList b)
+      in-k = cpu-index well c (n .is-cpu) .0
+
+      of-c : Phandle b c h
+      of-c = rw (cpu-index well c (n .is-cpu) .1) at (phandle-at typed well no17 k in-k)
+
+      cell-is : cellOf (b .props) (b .pool) i cpuKey ≡ Is h
+      cell-is = test-cell typed well i cpuKey (rw (value-unique well (n .phandle) (of-c .value)) at (n .cpu)) (of-c .word)
+
+      test : ℕ → Bool
+      test j = eqb (getD (phandleList b) j 0) h
+
+      first : ℕ
+      first = lowest test (length (phandleList b))
+
+      first-le : first ≤ k
+      first-le = ⊎-elim (λ lt. true-false (eq-eqb h h refl) (lowest-below test (length (phandleList b)) k lt)) (λ le. le) (lt-or-le k first)
+
+      found : first ≡ k
+      found =
+          let in-first : first < length (phandleList b) = omega (arith, in-phandles b in-k, first-le) in
+          index-apart typed well no17 first k (in-cpus b in-first) in-k (eqb-true _ _ (lowest-passes test (length (phandleList b)) in-first))
+
+  -- so it is an index where the record names a cpu record, the only one, and else none
+  pub names-inside : (i c : ℕ) → Names b i c → namedIndex b i < length (phandleList b)
+  names-inside i c n = rw (names-index i c n) (in-phandles b (cpu-index well c (n .is-cpu) .0))
+
+  pub names-at : (i c : ℕ) → Names b i c → cpuAt b (namedIndex b i) ≡ c
+  names-at i c n = rw (names-index i c n) (cpu-index well c (n .is-cpu) .1)
+
+  pub names-unique : (i c d : ℕ) → Names b i c → Names b i d → c ≡ d
+  names-unique i c d m n = sym (names-at i c m) ∙ names-at i d n
+
+  pub names-none : (i : ℕ) → length (phandleList b) ≤ namedIndex b i → (c : ℕ) → Names b i c → ⊥
+  names-none i le c n = let lt = names-inside i c n in omega arith
+
+  pub none-names : (i : ℕ) → ((c : ℕ) → Names b i c → ⊥) → length (phandleList b) ≤ namedIndex b i
+  none-names i none = ⊎-elim (λ lt. absurd (none _ (index-names i lt))) (λ le. le) (lt-or-le (namedIndex b i) (length (phandleList b)))

@@ -1,0 +1,14 @@
+-- Laws that belong to no one function.
+pub mod CellLaws
+pub mod PhandleMeans
+pub mod CheckCases
+pub mod LeafCount
+pub mod LeafMeans
+pub mod CheckLeaf
+pub mod LeafRules
+pub mod RuleStages
+pub mod TreeLeast
+pub mod TreeTells
+pub mod TreeGives
+pub mod GatherLaws
+pub mod ScanLaws

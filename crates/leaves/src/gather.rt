@@ -1,0 +1,98 @@
+// One pass over the records that gathers the leaves of the map: rules 18 to 25.
+use crate::RecordCheck;
+use crate::TreeScan;
+use crate::check::record_check;
+use cpus::MAX_CPUS;
+use keys::KEY_WORDS;
+use laws::REPEATED_LEAF_CPU;
+ghost use mathlib.Core.Path.{_≡_};
+ghost use Prim.Native.Nat.{_≤_};
+ghost use lib.ListN.{length, replicate};
+ghost use Rattle.cpus.specs.Rules.{maxCpus};
+ghost use Rattle.leaves.specs.Check.{keyCells};
+ghost use Rattle.leaves.specs.Scan.{tree};
+ghost use Rattle.leaves.specs.Pass.{isMarked, Left, checkedFault, leafScan};
+
+// Whether a table of marks has cpu k marked.
+pub fn is_marked(marks: &[u8], k: usize) -> bool
+    ensures { λ r. ⌜ r ≡ isMarked (now (marks .entry)) k ⌝ }
+{
+    if marks.len() <= k {
+        return false;
+    }
+    marks[k] == 1
+}
+
+// The number that a record breaks, given the marks of the cpus that earlier leaves name: its own, or 25 where it is a leaf and names one of them.
+fn checked_fault(marks: &[u8], check: RecordCheck) -> u32
+    ensures { λ r. ⌜ r ≡ checkedFault (now (marks .entry)) check ⌝ }
+{
+    if check.number != 0 {
+        return check.number;
+    }
+    if !check.leaf {
+        return 0;
+    }
+    if is_marked(marks, check.cpu) {
+        return REPEATED_LEAF_CPU;
+    }
+    0
+}
+
+// No leaves counted: the number and the place of what is broken.
+pub fn refuse(number: u32, place: usize) -> TreeScan
+    ensures { λ r. ⌜ r ≡ record { number = number; place = place; count = 0 } ⌝ }
+{
+    TreeScan {
+        number,
+        place,
+        count: 0,
+    }
+}
+
+// How many leaves there are, or the first of rules 18 to 25 that is broken. The leaves up to the record that breaks one are listed, and the cpus that they name listed and marked.
+pub fn gather(
+    nodes: &[u32],
+    props: &[u32],
+    pool: &[u8],
+    keys: &[u16; KEY_WORDS],
+    map: usize,
+    phandles: &[u64],
+    marks: &mut [u8],
+    leaves: &mut [usize; MAX_CPUS],
+    named: &mut [usize; MAX_CPUS],
+) -> TreeScan
+    requires { ⌜ (length (now phandles) ≤ maxCpus) × (now marks ≡ replicate maxCpus 0) ⌝ }
+    ensures answer { λ r.
+        let t = tree (now (nodes .entry)) (keyCells (now (props .entry)) (now (pool .entry)) (now (keys .entry))) (now (pool .entry)) map (now (phandles .entry)) in
+        ⌜ r ≡ leafScan t ⌝ }
+    ensures arrays { λ _.
+        let t = tree (now (nodes .entry)) (keyCells (now (props .entry)) (now (pool .entry)) (now (keys .entry))) (now (pool .entry)) map (now (phandles .entry)) in
+        ⌜ Left t (now (leaves .entry)) (now (named .entry)) (now (marks .exit)) (now (leaves .exit)) (now (named .exit)) ⌝ }
+{
+    let n = nodes.len() / 3;
+    let mut count: usize = 0;
+    let mut i: usize = 0;
+    while i < n {
+        let check = record_check(nodes, props, pool, keys, map, phandles, i);
+        let number = checked_fault(marks, check);
+        if number != 0 {
+            return refuse(number, i);
+        }
+        if !check.leaf {
+            i += 1;
+            continue;
+        }
+        leaves[count] = i;
+        let cpu = check.cpu;
+        named[count] = cpu;
+        marks[cpu] = 1;
+        count += 1;
+        i += 1;
+    }
+    TreeScan {
+        number: 0,
+        place: 0,
+        count,
+    }
+}

@@ -1,0 +1,78 @@
+-- What well-formed tables have. Assumes nothing.
+use mathlib.Core.Path.{_≡_, refl}
+use mathlib.Core.Logic.{_⊎_}
+use mathlib.Core.List.{List}
+use Prim.Native.Nat.{ℕ, suc, _≤_, _<_}
+use lib.ListN.{length}
+use Rattle.tables.specs.declared.Lookup.the-variants.{At}
+use Rattle.tables.specs.Limits.{maxPool, maxNodeName, maxPropertyName, noParent}
+use Rattle.tables.specs.Board.{Board, Inside, nodeCount, parentWord, nameOffset, nameLength, propCount, propNode, keyOffset, keyLength, valueOffset, valueLength, propValue}
+use Rattle.tables.specs.Property.{Property, HasValue, lookup}
+use Rattle.wellformed.specs.Rules.{WellFormed}
+use Rattle.tables.proofs.DepthLaws.{DepthFirst}
+use Rattle.wellformed.proofs.UniqueLaws.{property-unique, value-unique, lookup-of}
+use Rattle.wellformed.proofs.SoundLaws.{Verdict, Verdicts, Name, NodeWords, PropWords, SoundProperty, width-told, nodes-told, props-told, pool-told, node-told, property-told}
+
+module _ {b : Board} (wf : WellFormed b) where
+  kept : {n q v : ℕ} {P : Type 0} → Verdict b n q P v → P
+  kept (Verdict.sound p) = p
+  kept (Verdict.broken r) = absurd (wf _ _ r)
+
+  kept-first : {m n q v : ℕ} {P Q : Type 0} → Verdicts b m n q P Q v → P
+  kept-first (Verdicts.first r) = absurd (wf _ _ r)
+  kept-first (Verdicts.second p s) = p
+
+  kept-second : {m n q v : ℕ} {P Q : Type 0} → Verdicts b m n q P Q v → Q
+  kept-second (Verdicts.first r) = absurd (wf _ _ r)
+  kept-second (Verdicts.second p s) = kept s
+
+  -- the sizes of the tables
+  pub wf-width : (b .width ≡ 32) ⊎ (b .width ≡ 64)
+  wf-width = kept (width-told b)
+
+  pub wf-nodes : NodeWords b
+  wf-nodes = kept (nodes-told b)
+
+  pub wf-props : PropWords b
+  wf-props = kept (props-told b)
+
+  pub wf-pool : length (b .pool) ≤ maxPool
+  wf-pool = kept (pool-told b)
+
+  -- node records
+  pub wf-name : (i : ℕ) → i < nodeCount (b .nodes) → Name (b .pool) maxNodeName (nameOffset (b .nodes) i) (nameLength (b .nodes) i)
+  wf-name i lt = kept-first (node-told b i lt)
+
+  pub wf-root : parentWord (b .nodes) 0 ≡ noParent
+  wf-root = kept-second (node-told b 0 (wf-nodes .0))
+
+  pub wf-depth : DepthFirst (b .nodes)
+  wf-depth i lt = kept-second (node-told b (suc i) lt)
+
+  -- property records
+  pub wf-property : (k : ℕ) → k < propCount (b .props) → SoundProperty b k
+  wf-property k lt = kept-first (property-told b k lt)
+
+  pub wf-prop-node : (k : ℕ) → k < propCount (b .props) → propNode (b .props) k < nodeCount (b .nodes)
+  wf-prop-node k lt = wf-property k lt .node
+
+  pub wf-key : (k : ℕ) → k < propCount (b .props) → Name (b .pool) maxPropertyName (keyOffset (b .props) k) (keyLength (b .props) k)
+  wf-key k lt = wf-property k lt .name
+
+  pub wf-value : (k : ℕ) → k < propCount (b .props) → Inside (b .pool) (valueOffset (b .props) k) (valueLength (b .props) k)
+  wf-value k lt = wf-property k lt .value
+
+  -- a record has at most one property of a name, with one value, and the lookup finds it
+  module _ {i : ℕ} {key : List ℕ} where
+    pub wf-unique : {j k : ℕ} → Property b i key j → Property b i key k → j ≡ k
+    wf-unique = property-unique b i key (wf 8)
+
+    pub wf-value-unique : {v w : List ℕ} → HasValue b i key v → HasValue b i key w → v ≡ w
+    wf-value-unique = value-unique b i key (wf 8)
+
+    pub wf-lookup : {k : ℕ} → Property b i key k → lookup (b .props) (b .pool) i key ≡ At k
+    wf-lookup = lookup-of b i key (wf 8)
+
+    -- a property's value is one that the record has
+    pub wf-has-value : {k : ℕ} → Property b i key k → HasValue b i key (propValue b k)
+    wf-has-value {k} h = record { record-number = k; property = h; range = wf-value k (h .inside); bytes = refl }

@@ -1,0 +1,81 @@
+// Rules 1 to 4: the width and the lengths of the tables. Each gives its number or 0.
+use laws::BAD_NODE_TABLE;
+use laws::BAD_POOL;
+use laws::BAD_PROPERTY_TABLE;
+use laws::BAD_WIDTH;
+use tables::MAX_NODES;
+use tables::MAX_POOL;
+use tables::MAX_PROPERTIES;
+ghost use mathlib.Core.Path.{_≡_};
+ghost use Rattle.laws.specs.Fault.{orNumber};
+ghost use Rattle.wellformed.specs.Check.{widthFault, nodeWordsFault, propWordsFault, poolFault};
+
+fn width_fault(width: u32) -> u32
+    ensures { λ r. ⌜ r ≡ widthFault width ⌝ }
+{
+    if width == 32 {
+        return 0;
+    }
+    if width == 64 {
+        return 0;
+    }
+    BAD_WIDTH
+}
+
+fn node_words_fault(words: usize) -> u32
+    ensures { λ r. ⌜ r ≡ nodeWordsFault words ⌝ }
+{
+    if words % 3 == 0 {
+        if words == 0 {
+            return BAD_NODE_TABLE;
+        }
+        if 3 * MAX_NODES < words {
+            return BAD_NODE_TABLE;
+        }
+        return 0;
+    }
+    BAD_NODE_TABLE
+}
+
+fn prop_words_fault(words: usize) -> u32
+    ensures { λ r. ⌜ r ≡ propWordsFault words ⌝ }
+{
+    if words % 5 == 0 {
+        if 5 * MAX_PROPERTIES < words {
+            return BAD_PROPERTY_TABLE;
+        }
+        return 0;
+    }
+    BAD_PROPERTY_TABLE
+}
+
+fn pool_fault(bytes: usize) -> u32
+    ensures { λ r. ⌜ r ≡ poolFault bytes ⌝ }
+{
+    if MAX_POOL < bytes {
+        return BAD_POOL;
+    }
+    0
+}
+
+// The first of two numbers that is not 0.
+fn or_number(first: u32, second: u32) -> u32
+    ensures { λ r. ⌜ r ≡ orNumber first second ⌝ }
+{
+    if first == 0 {
+        return second;
+    }
+    first
+}
+
+// The smallest number of rules 1 to 4 that is broken, or 0.
+pub fn shape_fault(width: u32, nodes: usize, props: usize, pool: usize) -> u32
+    ensures { λ r.
+        ⌜ r ≡ orNumber (widthFault width) (orNumber (nodeWordsFault nodes) (orNumber (propWordsFault props) (poolFault pool))) ⌝ }
+{
+    let lengths = or_number(prop_words_fault(props), pool_fault(pool));
+    or_number(
+        width_fault(width),
+        or_number(node_words_fault(nodes), lengths),
+    )
+}
