@@ -1,14 +1,36 @@
 #!/usr/bin/env bash
 # All tests: every crate proved from nothing, every must-fail edit refused, every program run;
-# then the programs in Rust and C that call the archive. The last line is that of `rt ci`.
+# then the programs in Rust and C that call the archive. The last line is that of `rt ci`,
+# whose whole output is kept in target/ci.log. Nothing is installed before the proofs are done.
 set -euo pipefail
 cd "$(dirname "$0")/.."
-./scripts/setup.sh
 
+if ! command -v rt >/dev/null; then
+    echo "The Rattle kit is needed: 'rt' is not on the PATH." >&2
+    exit 2
+fi
+
+# Says how long a part took, and starts the clock of the next.
+took() {
+    echo "-- $SECONDS s: $1"
+    SECONDS=0
+}
+SECONDS=0
+
+# `rt ci` removes target/, so its output is kept elsewhere while it runs.
 log=$(mktemp)
 trap 'rm -f "$log"' EXIT
-rt ci | tee "$log"
+status=0
+rt ci 2>&1 | tee "$log" || status=$?
+mkdir -p target
+mv "$log" target/ci.log
+took "proofs and must-fail edits"
+[ "$status" -eq 0 ] || exit "$status"
+
+./scripts/setup.sh
+took "installing"
 
 ./scripts/outside.sh
+took "outside tests"
 
-tail -n 1 "$log"
+tail -n 1 target/ci.log

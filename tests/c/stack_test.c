@@ -1,0 +1,266 @@
+/*
+ * Measures the stack that sunderwath_read_tables needs. Each board is read on
+ * a stack of its own, painted before; afterwards the paint that is gone is
+ * counted, less what an empty function takes there. Prints the bytes of each
+ * board; exit status 1 where a board needs more than SUNDERWATH_STACK_BYTES or
+ * is not answered as expected.
+ */
+#define _XOPEN_SOURCE 700
+
+#include "sunderwath.h"
+
+#include <stdio.h>
+#include <string.h>
+#include <ucontext.h>
+
+#define PAINT UINT64_C(0xA5C3A5C3A5C3A5C3)
+#define STACK_WORDS (1u << 17) /* of 64 bits: one megabyte */
+#define LAST (SUNDERWATH_MAX_NODES - 1)
+
+static uint32_t nodes[SUNDERWATH_MAX_NODES * SUNDERWATH_NODE_WORDS];
+static uint32_t props[SUNDERWATH_MAX_PROPERTIES * SUNDERWATH_PROPERTY_WORDS];
+static uint8_t pool[SUNDERWATH_MAX_POOL];
+static uint32_t rows[SUNDERWATH_MAX_CPUS * SUNDERWATH_ROW_WORDS];
+static uint32_t answer[SUNDERWATH_ANSWER_WORDS];
+static size_t n, p, bytes;
+
+static uint64_t stack[STACK_WORDS];
+static ucontext_t outside, inside;
+static size_t largest;
+static int failures;
+
+/* ---- building a board ---- */
+
+static uint32_t add_bytes(const void *from, size_t length)
+{
+    uint32_t offset = (uint32_t)bytes;
+
+    memcpy(pool + offset, from, length);
+    bytes += length;
+    return offset;
+}
+
+/* Adds a record, and returns its number. */
+static uint32_t add_node(uint32_t parent, const char *name)
+{
+    nodes[n] = parent;
+    nodes[n + 1] = add_bytes(name, strlen(name));
+    nodes[n + 2] = (uint32_t)strlen(name);
+    n += SUNDERWATH_NODE_WORDS;
+    return (uint32_t)(n / SUNDERWATH_NODE_WORDS - 1);
+}
+
+static uint32_t add_numbered(uint32_t parent, const char *kind, uint32_t number)
+{
+    char name[32];
+
+    snprintf(name, sizeof name, "%s%u", kind, (unsigned)number);
+    return add_node(parent, name);
+}
+
+/* Adds records, each the child of the one before, up to record `last`. */
+static void add_chain(uint32_t parent, const char *name, uint32_t last)
+{
+    while (parent < last)
+        parent = add_node(parent, name);
+}
+
+static void add_prop(uint32_t node, const char *name, const void *value,
+                     size_t length)
+{
+    props[p] = node;
+    props[p + 1] = add_bytes(name, strlen(name));
+    props[p + 2] = (uint32_t)strlen(name);
+    props[p + 3] = add_bytes(value, length);
+    props[p + 4] = (uint32_t)length;
+    p += SUNDERWATH_PROPERTY_WORDS;
+}
+
+static void add_cell(uint32_t node, const char *name, uint32_t value)
+{
+    uint8_t cell[4] = {(uint8_t)(value >> 24), (uint8_t)(value >> 16),
+                       (uint8_t)(value >> 8), (uint8_t)value};
+
+    add_prop(node, name, cell, sizeof cell);
+}
+
+/* A cpu node; its phandle is its MPIDR plus 1. */
+static uint32_t add_cpu(uint32_t mpidr)
+{
+    uint32_t cpu = add_numbered(0, "cpu@", mpidr);
+
+    add_prop(cpu, "device_type", "cpu", 4);
+    add_cell(cpu, "reg", mpidr);
+    add_cell(cpu, "phandle", mpidr + 1);
+    return cpu;
+}
+
+/* A new board with only its cpus node, record 0. */
+static void start(void)
+{
+    n = p = bytes = 0;
+    add_node(SUNDERWATH_NONE, "cpus");
+    add_cell(0, "#address-cells", 1);
+    add_cell(0, "#size-cells", 0);
+}
+
+/* Clusters of four cores. */
+static void regular_board(uint32_t cpus)
+{
+    uint32_t map, cluster = 0, at;
+
+    start();
+    map = add_node(0, "cpu-map");
+    for (at = 0; at < cpus; at++) {
+        if (at % 4 == 0)
+            cluster = add_numbered(map, "cluster", at / 4);
+        add_cell(add_numbered(cluster, "core", at % 4), "cpu", at + 1);
+    }
+    for (at = 0; at < cpus; at++)
+        add_cpu(at);
+}
+
+/* One cpu, in a map as deep as the rules allow: a socket, four clusters, a
+ * core and a thread. */
+static void deepest_map(void)
+{
+    uint32_t at, depth;
+
+    start();
+    at = add_node(add_node(0, "cpu-map"), "socket0");
+    for (depth = 0; depth < 4; depth++)
+        at = add_node(at, "cluster0");
+    add_cell(add_node(add_node(at, "core0"), "thread0"), "cpu", 1);
+    add_cpu(0);
+}
+
+/* ---- measuring ---- */
+
+static void read_board(void)
+{
+    sunderwath_read_tables(64, nodes, n, props, p, pool, bytes, rows,
+                           sizeof rows / sizeof *rows, answer,
+                           SUNDERWATH_ANSWER_WORDS);
+}
+
+static void do_nothing(void)
+{
+}
+
+/* The bytes of the painted stack that a function writes to. It grows down, so
+ * what is still painted at its start was not reached. */
+static size_t bytes_touched(void (*function)(void))
+{
+    size_t at;
+
+    for (at = 0; at < STACK_WORDS; at++)
+        stack[at] = PAINT;
+    getcontext(&inside);
+    inside.uc_stack.ss_sp = stack;
+    inside.uc_stack.ss_size = sizeof stack;
+    inside.uc_link = &outside;
+    makecontext(&inside, function, 0);
+    swapcontext(&outside, &inside);
+    at = 0;
+    while (at < STACK_WORDS && stack[at] == PAINT)
+        at++;
+    return sizeof stack - at * sizeof *stack;
+}
+
+/* Reads the board once before: what the dynamic linker does at the first call
+ * of a function is not counted. */
+static void measure(const char *name, uint32_t number, uint32_t place)
+{
+    size_t need;
+    const char *verdict = "ok";
+
+    read_board();
+    memset(answer, 0xA5, sizeof answer);
+    need = bytes_touched(read_board) - bytes_touched(do_nothing);
+    if (need > largest)
+        largest = need;
+    if (need > SUNDERWATH_STACK_BYTES)
+        verdict = "TOO MUCH";
+    if (answer[SUNDERWATH_ANSWER_NUMBER] != number ||
+        answer[SUNDERWATH_ANSWER_PLACE] != place)
+        verdict = "DIFFERENT";
+    failures += strcmp(verdict, "ok") != 0;
+    printf("%-46s number %2u at %4u %6zu bytes %s\n", name,
+           (unsigned)answer[SUNDERWATH_ANSWER_NUMBER],
+           (unsigned)answer[SUNDERWATH_ANSWER_PLACE], need, verdict);
+}
+
+/* ---- the boards ---- */
+
+static void accepted_boards(void)
+{
+    regular_board(16);
+    measure("16 cpus", 0, 0);
+    regular_board(256);
+    measure("256 cpus", 0, 0);
+    deepest_map();
+    measure("the deepest map", 0, 0);
+}
+
+/* The fifth nested cluster breaks rule 22. Rule 6 is tested before, at all
+ * records: where the last one's parent is not the record before it, the
+ * ancestor test goes up the whole chain. */
+static void nested_in_the_map(void)
+{
+    start();
+    add_cpu(0);
+    add_chain(add_node(0, "cpu-map"), "cluster0", LAST);
+    measure("nested in the map", 22, 7);
+
+    start();
+    add_cpu(0);
+    add_chain(add_node(0, "cpu-map"), "cluster0", LAST - 1);
+    add_node(2, "cluster1");
+    measure("nested in the map, the last one below the map", 22, 7);
+
+    start();
+    add_chain(add_node(0, "cpu-map"), "cluster0", LAST - 1);
+    add_cpu(0);
+    measure("nested in the map, the last one below cpus", 22, 6);
+}
+
+/* A map of one core as records 1 to 3, and a chain from record 4, a cpu, to
+ * record `last`. */
+static void chain_below_a_cpu(uint32_t last)
+{
+    start();
+    add_cell(add_node(add_node(add_node(0, "cpu-map"), "cluster0"), "core0"),
+             "cpu", 1);
+    add_chain(add_cpu(0), "cache", last);
+}
+
+/* No rule forbids records below a cpu. Rule 18 asks of each whether it is
+ * below the map, and so goes up the chain too. */
+static void nested_below_a_cpu(void)
+{
+    chain_below_a_cpu(LAST);
+    measure("nested below a cpu", 0, 0);
+
+    chain_below_a_cpu(LAST - 1);
+    add_node(0, "cache");
+    measure("nested below a cpu, the last one below cpus", 0, 0);
+
+    chain_below_a_cpu(LAST - 1);
+    add_node(1, "cache");
+    measure("nested below a cpu, the last one below the map", 6, LAST);
+
+    start();
+    add_chain(add_cpu(0), "cache", LAST - 1);
+    add_node(0, "cpu-map");
+    measure("nested below a cpu, the map last", 23, LAST);
+}
+
+int main(void)
+{
+    accepted_boards();
+    nested_in_the_map();
+    nested_below_a_cpu();
+    printf("largest %zu bytes, SUNDERWATH_STACK_BYTES %u, %d failures\n",
+           largest, (unsigned)SUNDERWATH_STACK_BYTES, failures);
+    return failures == 0 ? 0 : 1;
+}
