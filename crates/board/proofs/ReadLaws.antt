@@ -11,6 +11,7 @@ use Rattle.laws.specs.declared.Fault.{Fault}
 use Rattle.laws.specs.Fault.{told, orElse}
 use Rattle.laws.proofs.FaultLaws.{or-first, or-second}
 use Rattle.laws.proofs.OrElseLaws.{told-number, or-clear, or-assoc}
+use Rattle.layout.specs.Row.{rowSize}
 use Rattle.affinity.specs.declared.Hash.{Hash}
 use Rattle.affinity.specs.Hash.{hashOfMask, hashOf}
 use Rattle.tables.specs.Board.{Board, Typed}
@@ -20,7 +21,6 @@ use Rattle.cpus.specs.Check.{cpuCount, countFault, rootFault, cpusFault, phandl
 use Rattle.topology.specs.declared.MapScan.{MapScan}
 use Rattle.topology.specs.Find.{mapOf, mapFault, mapScan}
 use Rattle.topology.specs.Scan.{leavesFault, treeOf, leavesOf}
-use Rattle.rows.specs.Fits.{rowSize}
 use Rattle.rows.specs.Write.{written, sourceOf}
 use Rattle.board.specs.declared.BoardAnswer.{BoardAnswer}
 use Rattle.board.specs.declared.Surveyed.{Surveyed}

@@ -2,6 +2,8 @@
 use mathlib.Core.Path.{_≡_, refl, ap}
 use Prim.Native.Nat.{ℕ, _/_, _%_, _^_, _<_}
 use native.Mathlib.Omega.{arith}
+use Rattle.layout.specs.Row.{rowWords, rowAt}
+use Rattle.layout.proofs.RowLaws.{row-path}
 use Rattle.affinity.specs.Hash.{slotIn}
 use Rattle.tables.specs.Board.{Board, Typed, nodeCount}
 use Rattle.tables.specs.Rules.{WellFormed}
@@ -16,11 +18,11 @@ use Rattle.topology.specs.Map.{Map, Leaf, Names}
 use Rattle.topology.specs.Rules.{MapRule}
 use Rattle.topology.specs.Scan.{treeOf, leavesOf, leafList}
 use Rattle.topology.proofs.CheckLeaf.{leaf-in-map, in-map-inside}
-use Rattle.rows.specs.Row.{rowOf, rowWords}
+use Rattle.rows.specs.Row.{rowOf}
 use Rattle.rows.specs.Write.{rowsBelow, sourceOf}
-use Rattle.rows.specs.Fits.{rowAt, RowFits, Fits}
+use Rattle.rows.specs.Fits.{RowFits, Fits}
 use Rattle.rows.proofs.WordMeans.{socket-word, cluster-word, core-word, thread-word}
-use Rattle.rows.proofs.RowLaws.{row-path, rows-length, row-at}
+use Rattle.rows.proofs.RowLaws.{rows-length, row-at}
 use Rattle.rows.proofs.SourceMeans.{leafCount, leafAt, cpuIn, leafRow, LeafFacts, mpidrs-of, row-number}
 
 module _ {b : Board} (typed : Typed b) (well : WellFormed b) (sound : SoundCpus b) {m : ℕ} (the-map : Map b m) (kept : (n p : ℕ) → MapRule b n p → ⊥) where

@@ -5,6 +5,7 @@ use Prim.Native.Nat.{ℕ, _≤_, _<_}
 use lib.ListN.{length, getD, length-map}
 use Rattle.laws.specs.Listing.{Listing}
 use Rattle.laws.proofs.IndexLaws.{getD-map-lt}
+use Rattle.layout.specs.declared.Row.{Row}
 use Rattle.affinity.specs.Hash.{slotIn}
 use Rattle.tables.specs.Board.{Board, Typed}
 use Rattle.tables.specs.Rules.{WellFormed}
@@ -19,7 +20,6 @@ use Rattle.topology.specs.Scan.{cpuOf, treeOf, leavesOf, leafList}
 use Rattle.topology.proofs.MapMeans.{map-of, map-found}
 use Rattle.topology.proofs.PhandleMeans.{cpuAt}
 use Rattle.topology.proofs.TreeGives.{leaf-listing, leaf-names, leaf-cpu, leaves-apart, same-count}
-use Rattle.rows.specs.declared.Row.{Row}
 use Rattle.rows.specs.Row.{rowOf}
 use Rattle.rows.specs.Write.{rowNumber, sourceOf}
 use Rattle.rows.specs.Fits.{Mpidrs}

@@ -1,18 +1,19 @@
 -- One turn of the loop that writes the rows. Assumes nothing.
 use mathlib.Core.Path.{_≡_, sym, ap, _∙_}
 use mathlib.Core.List.{List, _++_}
-use Prim.Native.Nat.{ℕ, _+_, _*_, _-_}
+use Prim.Native.Nat.{ℕ, _+_, _*_, _-_, _≤_}
 use native.Mathlib.Numerals.{add-one}
 use native.Mathlib.Omega.{arith}
-use lib.ListN.{length, getD, drop}
+use lib.ListN.{length, getD, drop, length-drop}
 use borrow.Rule.Slice.PartMut.{midOf, putMid}
-use Rattle.laws.proofs.PartLaws.{block-more}
+use Rattle.laws.proofs.PartLaws.{part-is, block-more}
+use Rattle.layout.specs.declared.Row.{Row}
+use Rattle.layout.specs.Row.{rowSize, rowWords, withRow}
+use Rattle.layout.proofs.RowLaws.{with-row}
 use Rattle.affinity.specs.declared.Hash.{Hash}
 use Rattle.affinity.specs.Hash.{hashOfMask, slotOf, slotGuarded}
 use Rattle.affinity.proofs.SlotClaims.{slot-guarded}
-use Rattle.rows.specs.declared.Row.{Row}
-use Rattle.rows.specs.Fits.{rowSize}
-use Rattle.rows.specs.Row.{rowOf, rowWords}
+use Rattle.rows.specs.Row.{rowOf}
 use Rattle.rows.specs.Write.{Source, rowFrom, rowNumber, rowsBelow}
 use Rattle.rows.proofs.RowLaws.{rows-length}
 
@@ -40,9 +41,11 @@ pub row-more :
     (s : Source) (old xs ys : List ℕ) (k : ℕ) {r : Row} →
     xs ≡ rowsBelow s k ++ drop (rowSize * k) old →
     r ≡ rowNumber s k →
-    ys ≡ rowWords r ++ drop rowSize (midOf (rowSize * k) (length xs - rowSize * k) xs) →
+    rowSize * k + rowSize ≤ length xs →
+    ys ≡ withRow r (midOf (rowSize * k) (length xs - rowSize * k) xs) →
     putMid (rowSize * k) (length xs - rowSize * k) xs ys ≡ rowsBelow s (k + 1) ++ drop (rowSize * (k + 1)) old
 unfolding rowsBelow
-row-more s old xs ys k {r} e q h =
+row-more s old xs ys k {r} e q room h =
+    let fits : rowSize ≤ length (midOf (rowSize * k) (length xs - rowSize * k) xs) = rw (part-is (rowSize * k) xs, length-drop (rowSize * k) xs) (omega arith) in
     let next : rowSize * k + rowSize ≡ rowSize * (k + 1) = omega arith in
-    block-more (rowSize * k) rowSize (rowsBelow s k) (rowWords r) old xs ys (rows-length s k) e h ∙ rw (next, q, add-one)
+    block-more (rowSize * k) rowSize (rowsBelow s k) (rowWords r) old xs ys (rows-length s k) e (h ∙ with-row r (midOf (rowSize * k) (length xs - rowSize * k) xs) fits) ∙ rw (next, q, add-one)

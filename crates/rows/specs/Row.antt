@@ -1,16 +1,16 @@
 -- The row of a leaf, as the writer makes it.
 use mathlib.Core.Bool.{Bool, true, false}
-use mathlib.Core.List.{List, [], _∷_}
+use mathlib.Core.List.{List}
 use Prim.Native.Nat.{ℕ, _/_, _%_, _^_}
-use lib.ListN.{getD}
+use Rattle.layout.specs.declared.Row.{Row}
+use Rattle.layout.specs.Row.{gap}
 use Rattle.names.specs.declared.TopologyName.{TopologyName}
 use Rattle.names.specs.declared.TopologyName.the-variants.{Socket, Cluster, Core, Thread, Other}
 use Rattle.tables.specs.Board.{parentWord}
 use Rattle.tables.specs.declared.Parent.{Parent}
 use Rattle.tables.specs.declared.Parent.the-variants.{Is, Top}
-use Rattle.topology.specs.Path.{gap, topologyName, clusterPath, socketNumber}
+use Rattle.topology.specs.Path.{topologyName, clusterPath, socketNumber}
 use Rattle.topology.specs.Check.{topologyNumber}
-use Rattle.rows.specs.declared.Row.{Row}
 
 -- the core's number: the leaf's own, or for a thread its parent's
 abbrev pub coreOf : TopologyName → TopologyName → ℕ
@@ -50,9 +50,3 @@ rowOf nodes pool i cpu m slot =
       thread = threadOf (topologyName nodes pool i);
       slot = slot;
     }
-
--- a row's words, in order
-unfoldable pub rowWords : Row → List ℕ
-rowWords r =
-    r .leaf ∷ r .cpu ∷ r .upper ∷ r .lower ∷ r .socket ∷ getD (r .path) 0 0 ∷ getD (r .path) 1 0 ∷ getD (r .path) 2 0 ∷ getD (r .path) 3 0
-    ∷ r .core ∷ r .thread ∷ r .slot ∷ []

@@ -2,14 +2,14 @@
 use mathlib.Core.List.{List, [], _++_}
 use Prim.Native.Nat.{ℕ, zero, suc, _*_}
 use lib.ListN.{length, getD, drop}
+use Rattle.layout.specs.declared.Row.{Row}
+use Rattle.layout.specs.Row.{rowSize, rowWords}
 use Rattle.affinity.specs.declared.Hash.{Hash}
 use Rattle.affinity.specs.Hash.{hashOf, slotOf, slotGuarded}
 use Rattle.tables.specs.Board.{Board}
 use Rattle.cpus.specs.Check.{cpuList, mpidrList}
 use Rattle.topology.specs.Scan.{leavesOf, namedOf}
-use Rattle.rows.specs.declared.Row.{Row}
-use Rattle.rows.specs.Fits.{rowSize}
-use Rattle.rows.specs.Row.{rowOf, rowWords}
+use Rattle.rows.specs.Row.{rowOf}
 
 -- what the rows are made of: the tables, the cpu records and their MPIDRs, the leaves and for each the index of the cpu record that it names, and the hash
 pub record Source : Type 0 where

@@ -1,9 +1,9 @@
 // The row of one leaf.
-use crate::Row;
+use layout::GAP;
+use layout::Row;
 use names::TopologyName;
 use tables::Parent;
 use tables::parent_of;
-use topology::GAP;
 use topology::Position;
 use topology::position_of;
 use topology::topology_name;

@@ -1,40 +1,20 @@
 // Writing rows: each into its own words of the lent buffer.
-use crate::ROW_WORDS;
-use crate::Row;
 use crate::leaf::row_of;
 use affinity::Hash;
+use layout::ROW_WORDS;
+use layout::Row;
+use layout::put_row;
 use tables::node_word;
 use topology::Position;
 use topology::position_of;
 ghost use mathlib.Core.Path.{_≡_};
-ghost use mathlib.Core.List.{_++_};
 ghost use Prim.Native.Nat.{_*_, _≤_};
-ghost use lib.ListN.{length, drop, getD};
+ghost use lib.ListN.{length, getD};
+ghost use Rattle.layout.specs.Row.{rowSize};
 ghost use Rattle.affinity.specs.Hash.{hashOfMask};
 ghost use Rattle.tables.specs.Board.{parentWord};
 ghost use Rattle.topology.specs.Path.{positionOf};
-ghost use Rattle.rows.specs.Fits.{rowSize};
-ghost use Rattle.rows.specs.Row.{rowWords};
 ghost use Rattle.rows.specs.Write.{written, source, rowFrom};
-
-// Writes a row at the start of a part of the row buffer.
-fn put_row(part: &mut [u32], row: Row)
-    requires { ⌜ rowSize ≤ length (now part) ⌝ }
-    ensures { λ _. ⌜ now (part .exit) ≡ rowWords row ++ drop rowSize (now (part .entry)) ⌝ }
-{
-    part[0] = row.leaf;
-    part[1] = row.cpu;
-    part[2] = row.upper;
-    part[3] = row.lower;
-    part[4] = row.socket;
-    part[5] = row.path[0];
-    part[6] = row.path[1];
-    part[7] = row.path[2];
-    part[8] = row.path[3];
-    part[9] = row.core;
-    part[10] = row.thread;
-    part[11] = row.slot;
-}
 
 // An element of a list, 0 outside it.
 fn record_at(list: &[usize], k: usize) -> usize

@@ -6,13 +6,13 @@ use Prim.Native.Nat.{ℕ, _*_, _≤_, _<_}
 use native.Mathlib.Omega.{arith}
 use lib.ListN.{length, take, replicate, length-map, length-replicate}
 use Rattle.laws.specs.Listed.{over}
+use Rattle.layout.specs.Row.{rowSize}
 use Rattle.affinity.specs.Mask.{maskOf}
 use Rattle.affinity.specs.Hash.{hashOfMask}
 use Rattle.tables.specs.Board.{Board, Typed, board}
 use Rattle.cpus.specs.Rules.{maxCpus}
 use Rattle.cpus.specs.Check.{cpuCount, cpuList, mpidrList}
 use Rattle.cpus.proofs.CpuMeans.{cpu-count}
-use Rattle.rows.specs.Fits.{rowSize}
 use Rattle.board.specs.Survey.{surveyFault, surveyOf, Lists}
 use Rattle.board.proofs.FrontLaws.{front-fits, front-size, front-is}
 use Rattle.board.proofs.ReadLaws.{Met, refuses-survey, none, counts, refuses-room, accepts, hash-made}

@@ -6,9 +6,9 @@ use native.Mathlib.Omega.{arith}
 use lib.ListN.{length, drop, getD}
 use borrow.Author.Needs.{needs}
 use borrow.Rule.Slice.PartMut.{same-len-mid}
+use Rattle.layout.specs.Row.{rowSize}
 use Rattle.tables.proofs.CodePool.{word-zero}
 use Rattle.topology.specs.Path.{positionOf}
-use Rattle.rows.specs.Fits.{rowSize}
 use Rattle.rows.specs.Write.{Source, source, rowNumber, rowsBelow, written}
 use Rattle.rows.proofs.TurnLaws.{from-number, row-more}
 use Rattle.rows.proofs.write.write_rows.Statement.{statement}
@@ -101,7 +101,7 @@ part-put-row-end : tie.Need-part-put-row-end Inv-loop μ-loop
 part-put-row-end c = search needs
 
 put-row-requires : tie.Need-put-row-requires Inv-loop μ-loop
-put-row-requires c κs = search (needs, place (turn (c .before)))
+put-row-requires c κs = search needs
 
 add-k : tie.Need-add-k Inv-loop μ-loop
 add-k c = search (needs, place (turn (c .before .before .before .before)))
@@ -119,7 +119,7 @@ loop-again c =
       omega (arith, place (turn row)),
       inv .1,
       same-len-mid (rowSize * at .loop .k) (length xs - rowSize * at .loop .k) xs (call .last .0) (call .kept .0) ∙ inv .2,
-      row-more (from at) (begun at .args .rows .now) xs (call .last .0) (at .loop .k) (inv .3) (made row) (call .ensures),
+      row-more (from at) (begun at .args .rows .now) xs (call .last .0) (at .loop .k) (inv .3) (made row) (place (turn row) .1) (call .ensures),
       row .before .before .position-at .ensures,
     )
 
