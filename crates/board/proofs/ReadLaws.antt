@@ -13,7 +13,7 @@ use Rattle.laws.proofs.FaultLaws.{or-first, or-second}
 use Rattle.laws.proofs.OrElseLaws.{told-number, or-clear, or-assoc}
 use Rattle.layout.specs.Row.{rowSize}
 use Rattle.affinity.specs.declared.Hash.{Hash}
-use Rattle.affinity.specs.Hash.{hashOfMask, hashOf}
+use Rattle.affinity.specs.Hash.{hashOf}
 use Rattle.tables.specs.Board.{Board, Typed}
 use Rattle.tables.specs.Check.{tableFault}
 use Rattle.cpus.specs.Rules.{maxCpus}
@@ -60,11 +60,6 @@ module _ (nodes pool : List ℕ) where
   pub map-root : mapFault nodes pool .number ≡ 0 → mapScan nodes pool .map ≡ mapOf nodes pool
   unfolding mapScan
   map-root z = ap (λ (r : MapScan). r .map) (scan-good (mapFault nodes pool) _ _ z)
-
--- the hash of a mask is that of its own mask
-pub hash-made : {h : Hash} (mask : ℕ) → h ≡ hashOfMask mask → h ≡ hashOfMask (h .mask)
-unfolding hashOfMask
-hash-made mask e = e ∙ ap hashOfMask (sym (ap (λ (h : Hash). h .mask) e))
 
 -- the survey
 module _ (b : Board) where

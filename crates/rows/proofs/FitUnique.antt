@@ -95,7 +95,8 @@ module _
         cluster d lt = cluster-word-only well sound l d lt (h .cluster d lt) ∙ sym (cluster-word-only well sound l d lt (g .cluster d lt))
 
     pub fits-unique : {r s : List ℕ} → Fits b r → Fits b s → r ≡ s
-    fits-unique {r} {s} h g = blocks-same rowSize (length (h .leaves)) r s (h .size) (g .size ∙ ap (λ (l : List ℕ). rowSize * length l) (sym same)) rows
+    fits-unique {r} {s} h g =
+        blocks-same rowSize (length (h .leaves)) r s (h .size) (g .size ∙ ap (λ (l : List ℕ). rowSize * length l) (sym same)) rows
       where
         same : h .leaves ≡ g .leaves
         same = listing-unique (h .leaves) (g .leaves) (h .listing) (g .listing)

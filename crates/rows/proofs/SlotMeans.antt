@@ -15,7 +15,7 @@ use Rattle.cpus.proofs.CpuMeans.{cpu-listing}
 use Rattle.cpus.proofs.RegMeans.{reg-affine}
 use Rattle.cpus.proofs.CpuGives.{cpu-reg, mpidr-distinct}
 use Rattle.topology.specs.Map.{Leaf, Names}
-use Rattle.topology.specs.Scan.{cpuOf, treeOf, leavesOf}
+use Rattle.topology.specs.Scan.{cpuOf, treeOf}
 use Rattle.rows.specs.Row.{rowOf}
 use Rattle.rows.specs.Write.{rowsBelow, sourceOf}
 use Rattle.rows.proofs.RowLaws.{row-at}
@@ -45,8 +45,9 @@ module _ {b : Board} (typed : Typed b) (well : WellFormed b) (sound : SoundCpus 
   -- the MPIDR of row k is a listed one
   listed : (k : ℕ) → k < leafCount b → (i : ℕ) × (i < length (mpidrList b)) × (getD (mpidrList b) i 0 ≡ mpidrAt b (cpuIn b (leafAt b k)))
   listed k lt =
+      let cpu = cpuOf (treeOf b) (leafAt b k) in
       let in-cpus = leaves .index (leafAt b k) (leaves .listing .only k lt) in
-      (cpuOf (treeOf b) (leafAt b k), rw (length-map (cpuList b) (mpidrAt b)) in-cpus, getD-map-lt (mpidrAt b) (cpuList b) (cpuOf (treeOf b) (leafAt b k)) in-cpus)
+      (cpu, rw (length-map (cpuList b) (mpidrAt b)) in-cpus, getD-map-lt (mpidrAt b) (cpuList b) cpu in-cpus)
 
   pub slots-distinct-rows : (j k : ℕ) → j < leafCount b → k < leafCount b → slotWord j ≡ slotWord k → j ≡ k
   slots-distinct-rows j k lj lk e =

@@ -74,7 +74,12 @@ module _ {b : Board} (well : WellFormed b) (sound : SoundCpus b) where
   named : {i n : ℕ} (kind : Kind) → i < nodeCount (b .nodes) → Named (nodeName b i) kind n → name i ≡ answered kind n
   named {i} {n} kind lt h = topology-is b well i kind n lt .1 h
 
-  pub core-word : {leaf m : ℕ} → Map b m → ((n p : ℕ) → MapRule b n p → ⊥) → Leaf b leaf → CoreWord b leaf (coreOf (name leaf) (name (parentWord (b .nodes) leaf)))
+  pub core-word :
+      {leaf m : ℕ} →
+      Map b m →
+      ((n p : ℕ) → MapRule b n p → ⊥) →
+      Leaf b leaf →
+      CoreWord b leaf (coreOf (name leaf) (name (parentWord (b .nodes) leaf)))
   core-word {leaf} {m} the-map kept (Leaf.aThread i t) =
       let c = parent-of (i .below) in
       let core = parent-kind b well m the-map sound kept leaf (parentWord (b .nodes) leaf) Kind.thread i c t in

@@ -5,6 +5,7 @@ use Prim.Native.Nat.{ℕ, _*_, _≤_, _<_}
 use native.Mathlib.Omega.{arith}
 use lib.ListN.{length, take, drop, length-append, length-drop}
 use lib.Seq.{take-at, drop-at}
+use borrow.Author.Tests.{le-ltb}
 use Rattle.laws.proofs.BlockLaws.{block-front}
 use Rattle.layout.specs.Row.{rowSize, rowAt}
 use Rattle.rows.specs.Write.{Source, rowsBelow, written}
@@ -17,19 +18,18 @@ module _ (s : Source) (before : List ℕ) (room : rowSize * length (s .leaves) �
   abbrev rows : List ℕ
   rows = rowsBelow s (length (s .leaves))
 
-  pub written-front : take words (written s before) ≡ rows
+  written-is : written s before ≡ rows ++ drop words before
   unfolding written
-  written-front = take-at rows (drop words before) words (rows-length s (length (s .leaves)))
+  written-is = rw (le-ltb (length before) words room)
+
+  pub written-front : take words (written s before) ≡ rows
+  written-front = rw written-is (take-at rows (drop words before) words (rows-length s (length (s .leaves))))
 
   pub written-rest : drop words (written s before) ≡ drop words before
-  unfolding written
-  written-rest = drop-at rows (drop words before) words (rows-length s (length (s .leaves)))
+  written-rest = rw written-is (drop-at rows (drop words before) words (rows-length s (length (s .leaves))))
 
   pub written-length : length (written s before) ≡ length before
-  unfolding written
-  written-length =
-      rw (length-append rows (drop words before), rows-length s (length (s .leaves)), length-drop words before) (omega arith)
+  written-length = rw (written-is, length-append rows (drop words before), rows-length s (length (s .leaves)), length-drop words before) (omega arith)
 
   pub written-row : (k : ℕ) → k < length (s .leaves) → rowAt (written s before) k ≡ rowAt rows k
-  unfolding written
-  written-row k lt = block-front rowSize rows (drop words before) (length (s .leaves)) k (rows-length s (length (s .leaves))) lt
+  written-row k lt = rw written-is (block-front rowSize rows (drop words before) (length (s .leaves)) k (rows-length s (length (s .leaves))) lt)
