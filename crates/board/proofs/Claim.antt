@@ -1,5 +1,5 @@
 -- Demands 1 and 3 of the definitions that the reading call's contract cites. Assumes nothing.
-use mathlib.Core.Path.{_≡_, refl, sym, ap, _∙_}
+use mathlib.Core.Path.{_≡_, refl, sym, _∙_}
 use mathlib.Core.Bool.{Bool, true, false}
 use mathlib.Core.Logic.{⊎-elim, _↔_}
 use mathlib.Core.List.{List}
@@ -10,7 +10,7 @@ use lib.Dec.{eqb}
 use borrow.Author.Tests.{eq-eqb, ne-eqb, eqb-true, eqb-false}
 use Rattle.laws.proofs.SearchLaws.{lt-or-le}
 use Rattle.laws.proofs.RuleStageLaws.{tells-first, tells-none}
-use Rattle.layout.specs.Row.{rowSize, rowSlot}
+use Rattle.layout.specs.Row.{rowSize}
 use Rattle.affinity.specs.Hash.{hashOf}
 use Rattle.tables.specs.Board.{Board, Typed, nodeCount}
 use Rattle.tables.specs.Order.{stage}
@@ -77,7 +77,7 @@ module _
     fits = rw (← same, written-front (sourceOf b) before has-room) (rows-fit typed well sound (the-map .1) kept leaves)
 
     slot-at : (k : ℕ) → k < cpuCount b → slotAt after k ≡ slotAt (rowsBelow (sourceOf b) (leafCount b)) k
-    slot-at k lt = ap rowSlot (written-row (sourceOf b) before has-room k (rw same lt))
+    slot-at k lt = rw (written-row (sourceOf b) before has-room k (rw same lt))
 
     distinct : (j k : ℕ) → j < cpuCount b → k < cpuCount b → slotAt after j ≡ slotAt after k → j ≡ k
     distinct j k lj lk e = slots-distinct-rows typed well sound leaves j k (rw same lj) (rw same lk) (sym (slot-at j lj) ∙ e ∙ slot-at k lk)

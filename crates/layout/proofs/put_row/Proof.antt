@@ -1,18 +1,18 @@
 -- `put_row` writes a row's words, and the rest stays; a part too short stays whole. Assumes nothing.
 use mathlib.Core.Path.{sym, _∙_}
 use native.Mathlib.Omega.{arith}
-use lib.ListN.{length-set}
+use lib.ListN.{length, length-set}
 use lib.Seq.{sets-eq}
 use borrow.Author.Tests.{lt-ltb}
 use borrow.Author.Needs.{needs}
-use Rattle.layout.specs.Row.{rowWords, withRow}
+use Rattle.layout.specs.Row.{rowSize, rowWords, withRow}
 use Rattle.layout.proofs.RowLaws.{with-row}
 use Rattle.layout.proofs.put_row.Statement.{statement}
 use Rattle.layout.proofs.put_row.Tie as tie
 
 returns : tie.Need-returns
 unfolding withRow
-returns c = rw (lt-ltb _ _ (c .if1 .taken))
+returns c = rw (lt-ltb (length (c .before .args .part .now)) rowSize (omega arith))
 
 slice-write-part : tie.Need-slice-write-part
 slice-write-part c = search needs
@@ -70,7 +70,7 @@ unfolding rowWords
 returns-2 c =
     let test = c .before .before .before .before in
     let a = test .before .args in
-    sets-eq (rowWords (a .t2)) (a .part .now) 0 (omega arith) ∙ sym (with-row (a .t2) (a .part .now) (test .if1 .left))
+    sets-eq (rowWords (a .t2)) (a .part .now) 0 (omega arith) ∙ sym (with-row (a .t2) (a .part .now) (omega arith))
 
 pub put-row-spec : {M : Type 1} → statement M
 put-row-spec =
