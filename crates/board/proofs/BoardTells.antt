@@ -13,6 +13,7 @@ use Rattle.laws.specs.Listing.{Listing}
 use Rattle.laws.proofs.ListingLaws.{listing-unique}
 use Rattle.laws.proofs.FirstLaws.{Tells, end-tells}
 use Rattle.laws.proofs.RuleStageLaws.{Clears, Once, once-tells, else-clear}
+use Rattle.layout.specs.Row.{rowSize}
 use Rattle.tables.specs.Board.{Board, Typed}
 use Rattle.wellformed.specs.Order.{stage}
 use Rattle.wellformed.specs.Rules.{WellFormed}
@@ -24,8 +25,7 @@ use Rattle.cpus.proofs.CpuTells.{cpus-tells, phandles-tells}
 use Rattle.leaves.specs.Scan.{treeAt, leavesFault}
 use Rattle.topology.proofs.MapMeans.{map-is}
 use Rattle.topology.proofs.MapTells.{map-tells}
-use Rattle.leaves.proofs.TreeTells.{tree-tells}
-use Rattle.rows.specs.Fits.{rowSize}
+use Rattle.topology.proofs.TreeTells.{tree-tells}
 use Rattle.board.specs.Rules.{Breaks}
 use Rattle.board.specs.Answer.{boardFault, roomFault}
 use Rattle.board.proofs.LayerLaws.{board-stages}

@@ -3,13 +3,14 @@ use mathlib.Core.Path.{_≡_, refl, sym, _∙_}
 use mathlib.Core.Bool.{Bool, true, false}
 use mathlib.Core.Logic.{⊎-elim, _↔_}
 use mathlib.Core.List.{List}
-use Prim.Native.Nat.{ℕ, _+_, _*_, _≤_, _<_}
+use Prim.Native.Nat.{ℕ, _*_, _≤_, _<_}
 use native.Mathlib.Omega.{arith}
 use lib.ListN.{length, take, drop}
 use lib.Dec.{eqb}
 use borrow.Author.Tests.{eq-eqb, ne-eqb, eqb-true, eqb-false}
 use Rattle.laws.proofs.SearchLaws.{lt-or-le}
 use Rattle.laws.proofs.RuleStageLaws.{tells-first, tells-none}
+use Rattle.layout.specs.Row.{rowSize}
 use Rattle.affinity.specs.Hash.{hashOf}
 use Rattle.tables.specs.Board.{Board, Typed, nodeCount}
 use Rattle.wellformed.specs.Order.{stage}
@@ -21,13 +22,13 @@ use Rattle.topology.specs.Map.{Map}
 use Rattle.topology.specs.Rules.{MapRule}
 use Rattle.topology.specs.Find.{mapOf}
 use Rattle.topology.proofs.MapMeans.{map-of, no-map}
-use Rattle.rows.specs.Fits.{rowSize, Fits}
+use Rattle.rows.specs.Fits.{Fits}
 use Rattle.rows.specs.Write.{rowsBelow, written, sourceOf}
 use Rattle.rows.proofs.SourceMeans.{leafCount, LeafFacts, leaf-facts, leaf-count, mpidrs-of}
 use Rattle.rows.proofs.FitMeans.{rows-fit}
 use Rattle.rows.proofs.FitUnique.{fits-unique}
 use Rattle.rows.proofs.SlotMeans.{slots-distinct-rows, slots-bounded}
-use Rattle.rows.proofs.WrittenLaws.{written-front, written-rest, written-length, written-at}
+use Rattle.rows.proofs.WrittenLaws.{written-front, written-rest, written-length, written-row}
 use Rattle.board.specs.declared.BoardAnswer.{BoardAnswer}
 use Rattle.board.specs.Rules.{Breaks, MapBroken, Room}
 use Rattle.board.specs.Answer.{boardFault, answerOf, rowsAfter}
@@ -76,7 +77,7 @@ module _
     fits = rw (← same, written-front (sourceOf b) before has-room) (rows-fit typed well sound (the-map .1) kept leaves)
 
     slot-at : (k : ℕ) → k < cpuCount b → slotAt after k ≡ slotAt (rowsBelow (sourceOf b) (leafCount b)) k
-    slot-at k lt = written-at (sourceOf b) before has-room (rowSize * k + 11) (omega (arith, same))
+    slot-at k lt = rw (written-row (sourceOf b) before has-room k (rw same lt))
 
     distinct : (j k : ℕ) → j < cpuCount b → k < cpuCount b → slotAt after j ≡ slotAt after k → j ≡ k
     distinct j k lj lk e = slots-distinct-rows typed well sound leaves j k (rw same lj) (rw same lk) (sym (slot-at j lj) ∙ e ∙ slot-at k lk)

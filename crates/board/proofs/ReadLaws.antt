@@ -11,16 +11,16 @@ use Rattle.laws.specs.declared.Fault.{Fault}
 use Rattle.laws.specs.Fault.{told, orElse}
 use Rattle.laws.proofs.FaultLaws.{or-first, or-second}
 use Rattle.laws.proofs.OrElseLaws.{told-number, or-clear, or-assoc}
+use Rattle.layout.specs.Row.{rowSize}
 use Rattle.affinity.specs.declared.Hash.{Hash}
-use Rattle.affinity.specs.Hash.{hashOfMask, hashOf}
+use Rattle.affinity.specs.Hash.{hashOf}
 use Rattle.tables.specs.Board.{Board, Typed}
 use Rattle.wellformed.specs.Check.{tableFault}
 use Rattle.cpus.specs.Rules.{maxCpus}
 use Rattle.cpus.specs.Check.{cpuCount, countFault, rootFault, cpusFault, phandlesFault, mpidrList}
 use Rattle.topology.specs.declared.MapScan.{MapScan}
 use Rattle.topology.specs.Find.{mapOf, mapFault, mapScan}
-use Rattle.leaves.specs.Scan.{leavesFault, treeOf, leavesOf}
-use Rattle.rows.specs.Fits.{rowSize}
+use Rattle.topology.specs.Scan.{leavesFault, treeOf, leavesOf}
 use Rattle.rows.specs.Write.{written, sourceOf}
 use Rattle.board.specs.declared.BoardAnswer.{BoardAnswer}
 use Rattle.board.specs.declared.Surveyed.{Surveyed}
@@ -60,11 +60,6 @@ module _ (nodes pool : List ℕ) where
   pub map-root : mapFault nodes pool .number ≡ 0 → mapScan nodes pool .map ≡ mapOf nodes pool
   unfolding mapScan
   map-root z = ap (λ (r : MapScan). r .map) (scan-good (mapFault nodes pool) _ _ z)
-
--- the hash of a mask is that of its own mask
-pub hash-made : {h : Hash} (mask : ℕ) → h ≡ hashOfMask mask → h ≡ hashOfMask (h .mask)
-unfolding hashOfMask
-hash-made mask e = e ∙ ap hashOfMask (sym (ap (λ (h : Hash). h .mask) e))
 
 -- the survey
 module _ (b : Board) where

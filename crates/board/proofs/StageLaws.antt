@@ -6,6 +6,7 @@ use Prim.Native.Nat.{ℕ, _*_, _≤_, _<_}
 use native.Mathlib.Omega.{arith}
 use lib.ListN.{length}
 use Rattle.laws.specs.Listing.{Listing}
+use Rattle.layout.specs.Row.{rowSize}
 use Rattle.tables.specs.Board.{Board}
 use Rattle.wellformed.specs.Order.{stage}
 use Rattle.wellformed.specs.Rules.{TableRule}
@@ -13,7 +14,6 @@ use Rattle.wellformed.proofs.RuleLaws.{rule-staged}
 use Rattle.cpus.specs.Node.{Cpu}
 use Rattle.cpus.specs.Rules.{CpuRule}
 use Rattle.topology.specs.Rules.{MapRule}
-use Rattle.rows.specs.Fits.{rowSize}
 use Rattle.board.specs.Rules.{Breaks}
 
 -- the numbers and stages of the rules of the cpu nodes: 9 to 13, or 17

@@ -6,11 +6,11 @@ use lib.Dec.{eqb, ltb}
 use lib.ListN.{length}
 use Rattle.laws.specs.declared.Fault.{Fault}
 use Rattle.laws.specs.Fault.{told, orElse}
+use Rattle.layout.specs.Row.{rowSize}
 use Rattle.affinity.specs.Hash.{hashOf}
 use Rattle.affinity.specs.List.{noHash}
 use Rattle.tables.specs.Board.{Board}
 use Rattle.cpus.specs.Check.{cpuCount, mpidrList}
-use Rattle.rows.specs.Fits.{rowSize}
 use Rattle.rows.specs.Write.{Source, written, sourceOf}
 use Rattle.board.specs.declared.BoardAnswer.{BoardAnswer}
 use Rattle.board.specs.Survey.{surveyFault}

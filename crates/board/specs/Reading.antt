@@ -2,9 +2,10 @@
 use mathlib.Core.Path.{_≡_}
 use mathlib.Core.Logic.{_↔_}
 use mathlib.Core.List.{List}
-use Prim.Native.Nat.{ℕ, _+_, _*_, _^_, _<_}
-use lib.ListN.{length, getD, take, drop}
+use Prim.Native.Nat.{ℕ, _*_, _^_, _<_}
+use lib.ListN.{length, take, drop}
 use Rattle.laws.specs.Listing.{Listing}
+use Rattle.layout.specs.Row.{rowSize, rowSlot, rowAt}
 use Rattle.affinity.specs.Hash.{hashOf}
 use Rattle.affinity.specs.List.{noHash}
 use Rattle.tables.specs.Board.{Board}
@@ -12,7 +13,7 @@ use Rattle.wellformed.specs.Rules.{WellFormed}
 use Rattle.cpus.specs.Node.{Cpu}
 use Rattle.cpus.specs.Rules.{SoundCpus}
 use Rattle.topology.specs.Map.{Map}
-use Rattle.rows.specs.Fits.{rowSize, Mpidrs, Fits}
+use Rattle.rows.specs.Fits.{Mpidrs, Fits}
 use Rattle.board.specs.declared.BoardAnswer.{BoardAnswer}
 use Rattle.board.specs.Rules.{Breaks, MapBroken, Room, Told}
 
@@ -21,7 +22,7 @@ abbrev pub rowsIn : BoardAnswer → List ℕ → List ℕ
 rowsIn answer buffer = take (rowSize * answer .count) buffer
 
 abbrev pub slotAt : List ℕ → ℕ → ℕ
-slotAt buffer k = getD buffer (rowSize * k + 11) 0
+slotAt buffer k = rowSlot (rowAt buffer k)
 
 -- a refusal: the broken rule that 01's order tells; every other result 0; the buffer as it was
 pub record Refused (b : Board) (before : List ℕ) (answer : BoardAnswer) (after : List ℕ) : Type 0 where

@@ -4,13 +4,13 @@ use Prim.Native.Nat.{ℕ, _*_, _<_, _≤_}
 use lib.ListN.{length}
 use Rattle.laws.specs.First.{First}
 use Rattle.laws.specs.Listing.{Listing}
+use Rattle.layout.specs.Row.{rowSize}
 use Rattle.tables.specs.Board.{Board}
 use Rattle.wellformed.specs.Order.{stage}
 use Rattle.wellformed.specs.Rules.{TableRule}
 use Rattle.cpus.specs.Node.{Cpu}
 use Rattle.cpus.specs.Rules.{CpuRule}
 use Rattle.topology.specs.Rules.{MapRule}
-use Rattle.rows.specs.Fits.{rowSize}
 
 -- a rule is broken at a place, for a board and a row buffer of so many words
 pub data Breaks (b : Board) (room : ℕ) : ℕ → ℕ → Type 0 where

@@ -4,7 +4,7 @@ mod survey;
 use affinity::Hash;
 use cpus::MAX_CPUS;
 use laws::NO_ROOM;
-use rows::ROW_WORDS;
+use layout::ROW_WORDS;
 use survey::survey;
 ghost use mathlib.Core.Path.{_≡_};
 ghost use lib.ListN.{length};

@@ -1,7 +1,7 @@
 // The words of a row buffer.
 use crate::say;
-use rows::ROW_WORDS;
-use topology::GAP;
+use layout::GAP;
+use layout::ROW_WORDS;
 ghost use Rattle.io.specs.Counts.{Counts};
 
 // What the row buffer holds before a board is read.

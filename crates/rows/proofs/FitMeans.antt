@@ -2,6 +2,8 @@
 use mathlib.Core.Path.{_≡_, refl, ap}
 use Prim.Native.Nat.{ℕ, _/_, _%_, _^_, _<_}
 use native.Mathlib.Omega.{arith}
+use Rattle.layout.specs.Row.{rowWords, rowAt}
+use Rattle.layout.proofs.RowLaws.{row-path}
 use Rattle.affinity.specs.Hash.{slotIn}
 use Rattle.tables.specs.Board.{Board, Typed, nodeCount}
 use Rattle.wellformed.specs.Rules.{WellFormed}
@@ -14,53 +16,62 @@ use Rattle.cpus.proofs.RegMeans.{reg-bounds}
 use Rattle.cpus.proofs.CpuGives.{cpu-reg}
 use Rattle.topology.specs.Map.{Map, Leaf, Names}
 use Rattle.topology.specs.Rules.{MapRule}
-use Rattle.leaves.specs.Scan.{treeOf, leavesOf, leafList}
-use Rattle.leaves.proofs.CheckLeaf.{leaf-in-map, in-map-inside}
-use Rattle.rows.specs.Row.{rowOf, rowWords}
+use Rattle.topology.specs.Scan.{leavesOf}
+use Rattle.topology.proofs.CheckLeaf.{leaf-in-map, in-map-inside}
+use Rattle.rows.specs.Row.{rowOf}
 use Rattle.rows.specs.Write.{rowsBelow, sourceOf}
-use Rattle.rows.specs.Fits.{rowAt, RowFits, Fits}
+use Rattle.rows.specs.Fits.{RowFits, Fits}
 use Rattle.rows.proofs.WordMeans.{socket-word, cluster-word, core-word, thread-word}
-use Rattle.rows.proofs.RowLaws.{row-path, rows-length, row-at}
+use Rattle.rows.proofs.RowLaws.{rows-length, row-at}
 use Rattle.rows.proofs.SourceMeans.{leafCount, leafAt, cpuIn, leafRow, LeafFacts, mpidrs-of, row-number}
 
-module _ {b : Board} (typed : Typed b) (well : WellFormed b) (sound : SoundCpus b) {m : ℕ} (the-map : Map b m) (kept : (n p : ℕ) → MapRule b n p → ⊥) where
-  -- a record's number fits a word
-  small : (i : ℕ) → i < nodeCount (b .nodes) → i % 2 ^ 32 ≡ i
-  small i lt = omega (arith, wf-nodes well .1)
+module _
+    {b : Board}
+    (typed : Typed b)
+    (well : WellFormed b)
+    (sound : SoundCpus b)
+    {m : ℕ}
+    (the-map : Map b m)
+    (kept : (n p : ℕ) → MapRule b n p → ⊥)
+  where
+    -- a record's number fits a word
+    small : (i : ℕ) → i < nodeCount (b .nodes) → i % 2 ^ 32 ≡ i
+    small i lt = omega (arith, wf-nodes well .1)
 
-  -- the row of a leaf
-  row-fits : (leaf cpu : ℕ) → Leaf b leaf → Names b leaf cpu → RowFits b leaf (rowWords (leafRow b leaf cpu))
-  unfolding rowWords rowOf
-  row-fits leaf cpu l n =
-      record {
-        size = refl;
-        leaf-word = small leaf (in-map-inside (leaf-in-map l));
-        cpu = rw cpu-word n;
-        reg = rw cpu-word reg;
-        socket = socket-word well sound l;
-        cluster = λ d lt. rw (row-path (leafRow b leaf cpu) d lt) (cluster-word well sound l d lt);
-        core = core-word well sound the-map kept l;
-        thread = thread-word well sound l;
-        slot = record { list = mpidrList b; mpidrs = mpidrs-of typed well sound; slot = ap (slotIn (mpidrList b)) whole };
-      }
-    where
-      cpu-word : cpu % 2 ^ 32 ≡ cpu
-      cpu-word = small cpu (n .is-cpu .child .inside)
+    -- the row of a leaf
+    row-fits : (leaf cpu : ℕ) → Leaf b leaf → Names b leaf cpu → RowFits b leaf (rowWords (leafRow b leaf cpu))
+    unfolding rowWords rowOf
+    row-fits leaf cpu l n =
+        record {
+          size = refl;
+          leaf-word = small leaf (in-map-inside (leaf-in-map l));
+          cpu = rw cpu-word n;
+          reg = rw cpu-word reg;
+          socket = socket-word well sound l;
+          cluster = λ d lt. rw (row-path (leafRow b leaf cpu) d lt) (cluster-word well sound l d lt);
+          core = core-word well sound the-map kept l;
+          thread = thread-word well sound l;
+          slot = record { list = mpidrList b; mpidrs = mpidrs-of typed well sound; slot = ap (slotIn (mpidrList b)) whole };
+        }
+      where
+        cpu-word : cpu % 2 ^ 32 ≡ cpu
+        cpu-word = small cpu (n .is-cpu .child .inside)
 
-      reg : Reg b cpu (mpidrAt b cpu / 2 ^ 32) (mpidrAt b cpu % 2 ^ 32)
-      reg =
-          let t = cpu-reg typed well sound (n .is-cpu) in
-          let r = reg-bounds (t .2) in
-          let p = mpidr-parts (t .0) (t .1) (r .0) (r .1) in
-          rw (t .3, p .0, p .1) (t .2)
+        reg : Reg b cpu (mpidrAt b cpu / 2 ^ 32) (mpidrAt b cpu % 2 ^ 32)
+        reg =
+            let t = cpu-reg typed well sound (n .is-cpu) in
+            let r = reg-bounds (t .2) in
+            let p = mpidr-parts (t .0) (t .1) (r .0) (r .1) in
+            rw (t .3, p .0, p .1) (t .2)
 
-      whole : mpidrAt b cpu ≡ mpidr (mpidrAt b cpu / 2 ^ 32) (mpidrAt b cpu % 2 ^ 32)
-      whole = omega arith
+        whole : mpidrAt b cpu ≡ mpidr (mpidrAt b cpu / 2 ^ 32) (mpidrAt b cpu % 2 ^ 32)
+        whole = omega arith
 
-  pub rows-fit : LeafFacts b → Fits b (rowsBelow (sourceOf b) (leafCount b))
-  rows-fit leaves = record { leaves = leavesOf b; listing = leaves .listing; size = rows-length (sourceOf b) (leafCount b); each = each }
-    where
-      each : (k : ℕ) → k < leafCount b → RowFits b (leafAt b k) (rowAt (rowsBelow (sourceOf b) (leafCount b)) k)
-      each k lt =
-          let leaf = leaves .listing .only k lt in
-          rw (row-at (sourceOf b) (leafCount b) k lt, row-number typed well sound leaves k lt) (row-fits (leafAt b k) (cpuIn b (leafAt b k)) leaf (leaves .names (leafAt b k) leaf))
+    pub rows-fit : LeafFacts b → Fits b (rowsBelow (sourceOf b) (leafCount b))
+    rows-fit leaves = record { leaves = leavesOf b; listing = leaves .listing; size = rows-length (sourceOf b) (leafCount b); each = each }
+      where
+        each : (k : ℕ) → k < leafCount b → RowFits b (leafAt b k) (rowAt (rowsBelow (sourceOf b) (leafCount b)) k)
+        each k lt =
+            let leaf = leaves .listing .only k lt in
+            rw (row-at (sourceOf b) (leafCount b) k lt, row-number typed well sound leaves k lt)
+            (row-fits (leafAt b k) (cpuIn b (leafAt b k)) leaf (leaves .names (leafAt b k) leaf))

@@ -1,13 +1,14 @@
 -- One table of rows at most fits an accepted map: each word of a row is unique. Assumes nothing.
 use mathlib.Core.Path.{_≡_, refl, sym, ap, _∙_}
 use mathlib.Core.List.{List}
-use Prim.Native.Nat.{ℕ, suc, _+_, _*_, _<_}
+use Prim.Native.Nat.{ℕ, _*_, _<_}
 use native.Mathlib.Omega.{arith}
 use lib.ListN.{length, getD}
 use lib.Seq.{ext-getD}
-use Rattle.laws.proofs.SearchLaws.{below-suc}
 use Rattle.laws.proofs.ListingLaws.{listing-unique}
 use Rattle.laws.proofs.BlockLaws.{blocks-same}
+use Rattle.layout.specs.Row.{rowSize, rowCpu, rowUpper, rowLower, rowCluster, rowAt}
+use Rattle.layout.proofs.RowLaws.{row-same}
 use Rattle.affinity.specs.Hash.{slotIn}
 use Rattle.names.specs.Kind.{Kind, Named}
 use Rattle.names.proofs.NameMeans.{named-unique}
@@ -19,13 +20,13 @@ use Rattle.cpus.proofs.RegMeans.{reg-unique}
 use Rattle.topology.specs.Map.{InMap, Is, Leaf}
 use Rattle.topology.specs.Rules.{MapRule}
 use Rattle.topology.proofs.NameFacts.{kinds-apart}
-use Rattle.leaves.proofs.LeafMeans.{names-unique}
-use Rattle.leaves.proofs.CheckLeaf.{leaf-in-map}
-use Rattle.rows.specs.Fits.{rowSize, rowAt, Mpidrs, SocketWord, CoreWord, ThreadWord, SlotWord, RowFits, Fits}
+use Rattle.topology.proofs.LeafMeans.{names-unique}
+use Rattle.topology.proofs.CheckLeaf.{leaf-in-map}
+use Rattle.rows.specs.Fits.{Mpidrs, SocketWord, CoreWord, ThreadWord, SlotWord, RowFits, Fits}
 use Rattle.rows.proofs.ShapeLaws.{socket-unique}
 use Rattle.rows.proofs.WordMeans.{cluster-word-only}
 
--- words 9 and 10: the core and the thread
+-- the core and the thread
 core-thread : {A : Type 0} (b : Board) (leaf n : ℕ) → Named (nodeName b leaf) Kind.core n → Is b Kind.thread leaf → A
 core-thread b leaf n h t = absurd (kinds-apart b leaf Kind.core Kind.thread (λ e. omega arith) (n, h) t)
 
@@ -42,7 +43,7 @@ thread-word-unique (ThreadWord.notThread none) (ThreadWord.itself m g) = absurd 
 thread-word-unique (ThreadWord.notThread none) (ThreadWord.notThread other) = refl
 
 module _ {b : Board} (well : WellFormed b) where
-  -- word 11: the slot
+  -- the slot
   pub mpidrs-unique : {l k : List ℕ} → Mpidrs b l → Mpidrs b k → l ≡ k
   mpidrs-unique {l} {k} h g = ext-getD 0 l k (h .size ∙ ap length cpus-same ∙ sym (g .size)) each
     where
@@ -67,7 +68,7 @@ module _
     (no17 : (p : ℕ) → CpuRule b 17 p → ⊥)
     (kept : (n p : ℕ) → MapRule b n p → ⊥)
   where
-    -- word 4: the socket
+    -- the socket
     pub socket-word-unique : {leaf x y : ℕ} → InMap b leaf → SocketWord b leaf x → SocketWord b leaf y → x ≡ y
     socket-word-unique {leaf} i (SocketWord.inSocket s n a h) (SocketWord.inSocket t m c g) =
         let e = socket-unique b well (i .root) (i .is-map) sound kept leaf s t i a (n, h) c (m, g) in named-unique (rw e at h) g .1
@@ -76,39 +77,26 @@ module _
     socket-word-unique i (SocketWord.noSocket none) (SocketWord.noSocket other) = refl
 
     pub row-unique : {leaf : ℕ} {r s : List ℕ} → Leaf b leaf → RowFits b leaf r → RowFits b leaf s → r ≡ s
-    row-unique {leaf} {r} {s} l h g = ext-getD 0 r s (h .size ∙ sym (g .size)) (λ k lt. words k (rw (h .size) at lt))
+    row-unique {leaf} {r} {s} l h g =
+        row-same r s (h .size) (g .size)
+        (h .leaf-word ∙ sym (g .leaf-word)) cpu (reg .0) (reg .1)
+        (socket-word-unique (leaf-in-map l) (h .socket) (g .socket)) cluster
+        (core-word-unique (h .core) (g .core))
+        (thread-word-unique (h .thread) (g .thread))
+        (slot-word-unique well (rw (reg .0, reg .1) at (h .slot)) (g .slot))
       where
-        cpu : getD r 1 0 ≡ getD s 1 0
-        cpu = names-unique typed well no17 leaf (getD r 1 0) (getD s 1 0) (h .cpu) (g .cpu)
+        cpu : rowCpu r ≡ rowCpu s
+        cpu = names-unique typed well no17 leaf (rowCpu r) (rowCpu s) (h .cpu) (g .cpu)
 
-        cells : (getD r 2 0 ≡ getD s 2 0) × (getD r 3 0 ≡ getD s 3 0)
-        cells = reg-unique well (rw cpu at (h .reg)) (g .reg)
+        reg : (rowUpper r ≡ rowUpper s) × (rowLower r ≡ rowLower s)
+        reg = reg-unique well (rw cpu at (h .reg)) (g .reg)
 
-        cluster : (d : ℕ) → d < 4 → getD r (5 + d) 0 ≡ getD s (5 + d) 0
+        cluster : (d : ℕ) → d < 4 → rowCluster r d ≡ rowCluster s d
         cluster d lt = cluster-word-only well sound l d lt (h .cluster d lt) ∙ sym (cluster-word-only well sound l d lt (g .cluster d lt))
 
-        with-next : (n : ℕ) → ((k : ℕ) → k < n → getD r k 0 ≡ getD s k 0) → getD r n 0 ≡ getD s n 0 → (k : ℕ) → k < suc n → getD r k 0 ≡ getD s k 0
-        with-next n = below-suc {P = λ k. getD r k 0 ≡ getD s k 0} n
-
-        cpu-words : (k : ℕ) → k < 4 → getD r k 0 ≡ getD s k 0
-        cpu-words = with-next 3 (with-next 2 (with-next 1 (with-next 0 (λ k lt. absurd (omega arith)) (h .leaf-word ∙ sym (g .leaf-word))) cpu) (cells .0)) (cells .1)
-
-        path-words : (k : ℕ) → k < 9 → getD r k 0 ≡ getD s k 0
-        path-words =
-            with-next 8
-            (with-next 7
-            (with-next 6 (with-next 5 (with-next 4 cpu-words (socket-word-unique (leaf-in-map l) (h .socket) (g .socket))) (cluster 0 (omega arith))) (cluster 1 (omega arith)))
-            (cluster 2 (omega arith)))
-            (cluster 3 (omega arith))
-
-        words : (k : ℕ) → k < 12 → getD r k 0 ≡ getD s k 0
-        words =
-            with-next 11
-            (with-next 10 (with-next 9 path-words (core-word-unique (h .core) (g .core))) (thread-word-unique (h .thread) (g .thread)))
-            (slot-word-unique well (rw (cells .0, cells .1) at (h .slot)) (g .slot))
-
     pub fits-unique : {r s : List ℕ} → Fits b r → Fits b s → r ≡ s
-    fits-unique {r} {s} h g = blocks-same rowSize (length (h .leaves)) r s (h .size) (g .size ∙ ap (λ (l : List ℕ). rowSize * length l) (sym same)) rows
+    fits-unique {r} {s} h g =
+        blocks-same rowSize (length (h .leaves)) r s (h .size) (g .size ∙ ap (λ (l : List ℕ). rowSize * length l) (sym same)) rows
       where
         same : h .leaves ≡ g .leaves
         same = listing-unique (h .leaves) (g .leaves) (h .listing) (g .listing)

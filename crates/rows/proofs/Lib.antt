@@ -4,7 +4,6 @@ pub mod WordMeans
 pub mod FitUnique
 pub mod RowLaws
 pub mod PositionLaws
-pub mod TurnLaws
 pub mod WrittenLaws
 pub mod SourceMeans
 pub mod FitMeans

@@ -1,5 +1,5 @@
 -- A record that is neither a socket nor a cluster stands where its parent stands. Assumes nothing.
-use mathlib.Core.Path.{_≡_, refl, _∙_}
+use mathlib.Core.Path.{_≡_, refl, sym, ap, _∙_}
 use mathlib.Core.Bool.{true}
 use mathlib.Core.List.{List}
 use Prim.Native.Nat.{ℕ}
@@ -14,7 +14,8 @@ use Rattle.tables.proofs.TreeLaws.{parent-is}
 use Rattle.topology.specs.declared.Position.{Position}
 use Rattle.topology.specs.Path.{topologyName, positionStep, positionOf}
 use Rattle.topology.proofs.CodeLaws.{position-is}
-use Rattle.rows.specs.Row.{keepsPosition}
+use Rattle.rows.specs.declared.Placed.{Placed}
+use Rattle.rows.specs.Row.{keepsPosition, placed}
 
 step-kept : (p : ℕ) (name : TopologyName) (above : Position) → keepsPosition (Is p) name ≡ true → above ≡ positionStep name above
 step-kept p (Socket n) above e = let z : _≡_ {A = ℕ} 0 1 = cc in absurd (omega arith)
@@ -22,6 +23,10 @@ step-kept p (Cluster n) above e = let z : _≡_ {A = ℕ} 0 1 = cc in absurd (om
 step-kept p (Core n) above e = refl
 step-kept p (Thread n) above e = refl
 step-kept p Other above e = refl
+
+-- a record with its position is that of its own number
+pub placed-own : (nodes pool : List ℕ) {i : ℕ} {r : Placed} → r ≡ placed nodes pool i → r ≡ placed nodes pool (r .node)
+placed-own nodes pool e = e ∙ ap (λ (p : Placed). placed nodes pool (p .node)) (sym e)
 
 pub position-kept :
     (nodes pool : List ℕ) (i : ℕ) {parent : Parent} {name : TopologyName} {above : Position} →
@@ -32,7 +37,11 @@ pub position-kept :
     above ≡ positionOf nodes pool i
 position-kept nodes pool i e n a k = a ∙ go (parentOf nodes i) refl (rw (e, n) at k)
   where
-    go : (p : Parent) → parentOf nodes i ≡ p → keepsPosition p (topologyName nodes pool i) ≡ true → positionOf nodes pool (parentWord nodes i) ≡ positionOf nodes pool i
+    go :
+        (p : Parent) →
+        parentOf nodes i ≡ p →
+        keepsPosition p (topologyName nodes pool i) ≡ true →
+        positionOf nodes pool (parentWord nodes i) ≡ positionOf nodes pool i
     go (Is p) h k =
         let step = step-kept p (topologyName nodes pool i) (positionOf nodes pool p) k in
         rw (parent-is nodes i p h .1) (step ∙ position-is nodes pool i p h)

@@ -55,13 +55,20 @@ module _ (b : Board) (well : WellFormed b) (m : ℕ) (the-map : Map b m) (sound 
   -- an ancestor with a kind is itself below the map
   pub ancestor-in-map : (a i : ℕ) (kind : Kind) → InMap b i → Ancestor (b .nodes) a i → Is b kind a → InMap b a
   ancestor-in-map a i kind h t s =
-      ⊎-elim (λ e. absurd (not-map e)) (⊎-elim (λ u. absurd (not-above u)) (λ u. record { root = h .root; is-map = h .is-map; below = u })) (ancestor-chain t (h .below))
+      ⊎-elim
+      (λ e. absurd (not-map e))
+      (⊎-elim (λ u. absurd (not-above u)) (λ u. record { root = h .root; is-map = h .is-map; below = u }))
+      (ancestor-chain t (h .below))
     where
       not-map : a ≡ h .root → ⊥
       not-map e = map-nameless b a (rw e (h .is-map .name)) kind s
 
       not-above : Ancestor (b .nodes) a (h .root) → ⊥
-      not-above u = ⊎-elim (λ e. root-nameless sound kind (rw e at s)) (λ v. let l = ancestor-earlier v in absurd (omega arith)) (ancestor-cases u (h .is-map .child))
+      not-above u =
+          ⊎-elim
+          (λ e. root-nameless sound kind (rw e at s))
+          (λ v. let l = ancestor-earlier v in absurd (omega arith))
+          (ancestor-cases u (h .is-map .child))
 
   -- no socket is above a socket
   sockets-apart : (s t : ℕ) → InMap b s → InMap b t → Ancestor (b .nodes) s t → Is b Kind.socket t → ⊥

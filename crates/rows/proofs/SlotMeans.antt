@@ -1,11 +1,9 @@
 -- The slots of the rows written: no two the same, each below 2 to the power of the hash's bits. Assumes nothing.
 use mathlib.Core.Path.{_≡_, refl, sym, ap, _∙_}
-use mathlib.Core.List.{List}
-use Prim.Native.Nat.{ℕ, _+_, _*_, _^_, _<_}
-use native.Mathlib.Omega.{arith}
+use Prim.Native.Nat.{ℕ, _^_, _<_}
 use lib.ListN.{length, getD, length-map}
 use Rattle.laws.proofs.IndexLaws.{index-unique, getD-map-lt}
-use Rattle.laws.proofs.BlockLaws.{block-at}
+use Rattle.layout.specs.Row.{rowWords, rowSlot, rowAt}
 use Rattle.affinity.specs.Level.{Affine}
 use Rattle.affinity.specs.Hash.{hashOf, slotIn}
 use Rattle.affinity.proofs.SlotClaims.{slots-distinct, slot-bound}
@@ -17,30 +15,24 @@ use Rattle.cpus.proofs.CpuMeans.{cpu-listing}
 use Rattle.cpus.proofs.RegMeans.{reg-affine}
 use Rattle.cpus.proofs.CpuGives.{cpu-reg, mpidr-distinct}
 use Rattle.topology.specs.Map.{Leaf, Names}
-use Rattle.leaves.specs.Scan.{cpuOf, treeOf, leavesOf}
-use Rattle.rows.specs.Row.{rowOf, rowWords}
+use Rattle.topology.specs.Scan.{cpuOf, treeOf}
+use Rattle.rows.specs.Row.{rowOf}
 use Rattle.rows.specs.Write.{rowsBelow, sourceOf}
-use Rattle.rows.specs.Fits.{rowSize}
 use Rattle.rows.proofs.RowLaws.{row-at}
 use Rattle.rows.proofs.SourceMeans.{leafCount, leafAt, cpuIn, leafRow, LeafFacts, row-number}
 
--- word 11 of a row
-row-slot : (b : Board) (leaf cpu : ℕ) → getD (rowWords (leafRow b leaf cpu)) 11 0 ≡ slotIn (mpidrList b) (mpidrAt b cpu)
+row-slot : (b : Board) (leaf cpu : ℕ) → rowSlot (rowWords (leafRow b leaf cpu)) ≡ slotIn (mpidrList b) (mpidrAt b cpu)
 unfolding rowWords rowOf
 row-slot b leaf cpu = refl
 
 module _ {b : Board} (typed : Typed b) (well : WellFormed b) (sound : SoundCpus b) (leaves : LeafFacts b) where
-  abbrev written : List ℕ
-  written = rowsBelow (sourceOf b) (leafCount b)
-
   abbrev slotWord : ℕ → ℕ
-  slotWord k = getD written (rowSize * k + 11) 0
+  slotWord k = rowSlot (rowAt (rowsBelow (sourceOf b) (leafCount b)) k)
 
   -- the slot of row k is that of the MPIDR of its cpu record
   slot-word : (k : ℕ) → k < leafCount b → slotWord k ≡ slotIn (mpidrList b) (mpidrAt b (cpuIn b (leafAt b k)))
   slot-word k lt =
-      sym (block-at rowSize written k 11 (omega arith))
-      ∙ ap (λ (row : List ℕ). getD row 11 0) (row-at (sourceOf b) (leafCount b) k lt ∙ ap rowWords (row-number typed well sound leaves k lt))
+      ap rowSlot (row-at (sourceOf b) (leafCount b) k lt ∙ ap rowWords (row-number typed well sound leaves k lt))
       ∙ row-slot b (leafAt b k) (cpuIn b (leafAt b k))
 
   -- the MPIDRs have affinity bits alone
@@ -53,8 +45,9 @@ module _ {b : Board} (typed : Typed b) (well : WellFormed b) (sound : SoundCpus 
   -- the MPIDR of row k is a listed one
   listed : (k : ℕ) → k < leafCount b → (i : ℕ) × (i < length (mpidrList b)) × (getD (mpidrList b) i 0 ≡ mpidrAt b (cpuIn b (leafAt b k)))
   listed k lt =
+      let cpu = cpuOf (treeOf b) (leafAt b k) in
       let in-cpus = leaves .index (leafAt b k) (leaves .listing .only k lt) in
-      (cpuOf (treeOf b) (leafAt b k), rw (length-map (cpuList b) (mpidrAt b)) in-cpus, getD-map-lt (mpidrAt b) (cpuList b) (cpuOf (treeOf b) (leafAt b k)) in-cpus)
+      (cpu, rw (length-map (cpuList b) (mpidrAt b)) in-cpus, getD-map-lt (mpidrAt b) (cpuList b) cpu in-cpus)
 
   pub slots-distinct-rows : (j k : ℕ) → j < leafCount b → k < leafCount b → slotWord j ≡ slotWord k → j ≡ k
   slots-distinct-rows j k lj lk e =

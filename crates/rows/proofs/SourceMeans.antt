@@ -1,11 +1,14 @@
 -- What the rows of an accepted board are made of, and each row of them. Assumes nothing.
 use mathlib.Core.Path.{_≡_, sym, _∙_}
-use mathlib.Core.List.{List, map}
+use mathlib.Core.List.{map}
 use Prim.Native.Nat.{ℕ, _≤_, _<_}
 use lib.ListN.{length, getD, length-map}
 use Rattle.laws.specs.Listing.{Listing}
 use Rattle.laws.proofs.IndexLaws.{getD-map-lt}
+use Rattle.layout.specs.declared.Row.{Row}
+use Rattle.affinity.specs.Mask.{maskOf}
 use Rattle.affinity.specs.Hash.{slotIn}
+use Rattle.affinity.proofs.SlotClaims.{slot-guarded}
 use Rattle.tables.specs.Board.{Board, Typed}
 use Rattle.wellformed.specs.Rules.{WellFormed}
 use Rattle.cpus.specs.Rules.{CpuRule, SoundCpus}
@@ -15,11 +18,10 @@ use Rattle.cpus.proofs.CpuGives.{cpu-reg}
 use Rattle.topology.specs.Map.{Map, Leaf, Names}
 use Rattle.topology.specs.Find.{mapOf}
 use Rattle.topology.specs.Rules.{MapRule}
-use Rattle.leaves.specs.Scan.{cpuOf, treeOf, leavesOf, leafList}
+use Rattle.topology.specs.Scan.{cpuOf, treeOf, leavesOf}
 use Rattle.topology.proofs.MapMeans.{map-of, map-found}
-use Rattle.leaves.proofs.PhandleMeans.{cpuAt}
-use Rattle.leaves.proofs.TreeGives.{leaf-listing, leaf-names, leaf-cpu, leaves-apart, same-count}
-use Rattle.rows.specs.declared.Row.{Row}
+use Rattle.topology.proofs.PhandleMeans.{cpuAt}
+use Rattle.topology.proofs.TreeGives.{leaf-listing, leaf-names, leaf-cpu, leaves-apart, same-count}
 use Rattle.rows.specs.Row.{rowOf}
 use Rattle.rows.specs.Write.{rowNumber, sourceOf}
 use Rattle.rows.specs.Fits.{Mpidrs}
@@ -36,7 +38,8 @@ cpuIn b leaf = cpuAt b (cpuOf (treeOf b) leaf)
 
 -- the row of a leaf that names a cpu record
 abbrev pub leafRow : Board → ℕ → ℕ → Row
-leafRow b leaf cpu = rowOf (b .nodes) (b .pool) leaf cpu (mpidrAt b cpu) (slotIn (mpidrList b) (mpidrAt b cpu))
+leafRow b leaf cpu =
+    rowOf (b .nodes) (b .pool) leaf (record { cpu = cpu; mpidr = mpidrAt b cpu; slot = slotIn (mpidrList b) (mpidrAt b cpu) })
 
 -- the leaves listed: each names a cpu record, no two the same, and there are as many as cpu records
 pub record LeafFacts (b : Board) : Type 0 where
@@ -84,13 +87,14 @@ module _ {b : Board} (typed : Typed b) (well : WellFormed b) (sound : SoundCpus 
         cpus = cpuList b;
         listing = cpu-listing well;
         size = length-map (cpuList b) (mpidrAt b);
-        each = λ k lt. let t = cpu-reg typed well sound (cpu-listing well .only k lt) in (t .0, t .1, t .2, getD-map-lt (mpidrAt b) (cpuList b) k lt ∙ t .3);
+        each = λ k lt.
+            let t = cpu-reg typed well sound (cpu-listing well .only k lt) in (t .0, t .1, t .2, getD-map-lt (mpidrAt b) (cpuList b) k lt ∙ t .3);
       }
 
   -- row k is that of leaf k and of the cpu record that it names
   pub row-number : LeafFacts b → (k : ℕ) → k < leafCount b → rowNumber (sourceOf b) k ≡ leafRow b (leafAt b k) (cpuIn b (leafAt b k))
   unfolding rowNumber
-  row-number leaves k lt = rw (index, number)
+  row-number leaves k lt = rw (index, number, slot-guarded (maskOf (mpidrList b)) (mpidrAt b (cpuIn b (leafAt b k))))
     where
       in-cpus : cpuOf (treeOf b) (leafAt b k) < length (cpuList b)
       in-cpus = leaves .index (leafAt b k) (leaves .listing .only k lt)

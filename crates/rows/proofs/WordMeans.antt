@@ -1,4 +1,4 @@
--- What words 4 to 10 of a row are computed as fits the map. Assumes nothing.
+-- What the words of a row from the socket to the thread are computed as fits the map. Assumes nothing.
 use mathlib.Core.Path.{_≡_}
 use mathlib.Core.Logic.{_⊎_, inl, inr, ⊎-elim}
 use Prim.Native.Nat.{ℕ, _<_}
@@ -36,7 +36,7 @@ leaf-inside : {b : Board} {leaf : ℕ} → Leaf b leaf → leaf < nodeCount (b .
 leaf-inside l = in-map-inside (leaf-in-map l)
 
 module _ {b : Board} (well : WellFormed b) (sound : SoundCpus b) where
-  -- word 4
+  -- the socket
   pub socket-word : {leaf : ℕ} → Leaf b leaf → SocketWord b leaf (socketNumber (b .nodes) (b .pool) leaf)
   socket-word {leaf} l = go (sockets.socket-word b well (root-nameless sound) leaf (leaf-inside l))
     where
@@ -45,7 +45,7 @@ module _ {b : Board} (well : WellFormed b) (sound : SoundCpus b) where
       go (sockets.SocketWithin.inSocket s n (inr a) h near) = SocketWord.inSocket s n a h
       go (sockets.SocketWithin.noSocket none) = SocketWord.noSocket (λ s a is. none s (inr a) is)
 
-  -- words 5 to 8, and nothing else fits
+  -- the clusters, and nothing else fits
   module _ {leaf : ℕ} (l : Leaf b leaf) (d : ℕ) (lt : d < 4) where
     not-cluster : Is b Kind.cluster leaf → ⊥
     not-cluster = leaf-not b leaf Kind.cluster (omega arith) l
@@ -67,14 +67,19 @@ module _ {b : Board} (well : WellFormed b) (sound : SoundCpus b) where
         go (ClusterWord.inCluster c n above t h listing e) = PathWord.inCluster c n above (above-cluster b leaf not-cluster c t) h listing e
         go (ClusterWord.noCluster none) = PathWord.noCluster (λ c above t. none c above (cluster-above b leaf not-cluster c t))
 
-  -- words 9 and 10
+  -- the core and the thread
   abbrev name : ℕ → TopologyName
   name i = topologyName (b .nodes) (b .pool) i
 
   named : {i n : ℕ} (kind : Kind) → i < nodeCount (b .nodes) → Named (nodeName b i) kind n → name i ≡ answered kind n
   named {i} {n} kind lt h = topology-is b well i kind n lt .1 h
 
-  pub core-word : {leaf m : ℕ} → Map b m → ((n p : ℕ) → MapRule b n p → ⊥) → Leaf b leaf → CoreWord b leaf (coreOf (name leaf) (name (parentWord (b .nodes) leaf)))
+  pub core-word :
+      {leaf m : ℕ} →
+      Map b m →
+      ((n p : ℕ) → MapRule b n p → ⊥) →
+      Leaf b leaf →
+      CoreWord b leaf (coreOf (name leaf) (name (parentWord (b .nodes) leaf)))
   core-word {leaf} {m} the-map kept (Leaf.aThread i t) =
       let c = parent-of (i .below) in
       let core = parent-kind b well m the-map sound kept leaf (parentWord (b .nodes) leaf) Kind.thread i c t in

@@ -1,11 +1,13 @@
 -- The buffer after the writing, where it has room: the rows, and behind them what it held. Assumes nothing.
 use mathlib.Core.Path.{_≡_}
 use mathlib.Core.List.{List, _++_}
-use Prim.Native.Nat.{ℕ, _+_, _*_, _≤_, _<_}
+use Prim.Native.Nat.{ℕ, _*_, _≤_, _<_}
 use native.Mathlib.Omega.{arith}
-use lib.ListN.{length, getD, take, drop, length-append, length-drop, List·getD-append}
+use lib.ListN.{length, take, drop, length-append, length-drop}
 use lib.Seq.{take-at, drop-at}
-use Rattle.rows.specs.Fits.{rowSize}
+use borrow.Author.Tests.{le-ltb}
+use Rattle.laws.proofs.BlockLaws.{block-front}
+use Rattle.layout.specs.Row.{rowSize, rowAt}
 use Rattle.rows.specs.Write.{Source, rowsBelow, written}
 use Rattle.rows.proofs.RowLaws.{rows-length}
 
@@ -16,20 +18,18 @@ module _ (s : Source) (before : List ℕ) (room : rowSize * length (s .leaves) �
   abbrev rows : List ℕ
   rows = rowsBelow s (length (s .leaves))
 
-  pub written-front : take words (written s before) ≡ rows
+  written-is : written s before ≡ rows ++ drop words before
   unfolding written
-  written-front = (take-at rows (drop words before) words (rows-length s (length (s .leaves))))
+  written-is = rw (le-ltb (length before) words room)
+
+  pub written-front : take words (written s before) ≡ rows
+  written-front = rw written-is (take-at rows (drop words before) words (rows-length s (length (s .leaves))))
 
   pub written-rest : drop words (written s before) ≡ drop words before
-  unfolding written
-  written-rest = (drop-at rows (drop words before) words (rows-length s (length (s .leaves))))
+  written-rest = rw written-is (drop-at rows (drop words before) words (rows-length s (length (s .leaves))))
 
   pub written-length : length (written s before) ≡ length before
-  unfolding written
-  written-length =
-      rw (length-append rows (drop words before), rows-length s (length (s .leaves)), length-drop words before) (omega arith)
+  written-length = rw (written-is, length-append rows (drop words before), rows-length s (length (s .leaves)), length-drop words before) (omega arith)
 
-  pub written-at : (i : ℕ) → i < words → getD (written s before) i 0 ≡ getD rows i 0
-  unfolding written
-  written-at i lt =
-      let size = rows-length s (length (s .leaves)) in (List·getD-append rows (drop words before) 0 i (omega arith))
+  pub written-row : (k : ℕ) → k < length (s .leaves) → rowAt (written s before) k ≡ rowAt rows k
+  written-row k lt = rw written-is (block-front rowSize rows (drop words before) (length (s .leaves)) k (rows-length s (length (s .leaves))) lt)

@@ -1,20 +1,16 @@
 -- Rows that fit a map (01, "The row"): each word as a fact about records, names and properties.
 use mathlib.Core.Path.{_≡_}
 use mathlib.Core.List.{List}
-use Prim.Native.Nat.{ℕ, _+_, _*_, _<_}
-use lib.ListN.{length, getD, take, drop}
+use Prim.Native.Nat.{ℕ, _*_, _<_}
+use lib.ListN.{length, getD}
 use Rattle.laws.specs.Listing.{Listing}
+use Rattle.layout.specs.Row.{rowSize, gap, rowLeaf, rowCpu, rowUpper, rowLower, rowSocket, rowCluster, rowCore, rowThread, rowSlot, rowAt}
 use Rattle.affinity.specs.Hash.{slotIn}
 use Rattle.names.specs.Kind.{Kind, Named}
 use Rattle.tables.specs.Board.{Board, nodeName}
 use Rattle.tables.specs.Tree.{Child, Ancestor}
 use Rattle.cpus.specs.Node.{Cpu, Reg, mpidr}
 use Rattle.topology.specs.Map.{Is, Leaf, Names, ClusterAbove}
-use Rattle.topology.specs.Path.{gap}
-
--- the words of a row
-abbrev pub rowSize : ℕ
-rowSize = 12
 
 -- the MPIDRs of all cpu records, in record order
 pub record Mpidrs (b : Board) (list : List ℕ) : Type 0 where
@@ -23,12 +19,12 @@ pub record Mpidrs (b : Board) (list : List ℕ) : Type 0 where
   pub size : length list ≡ length cpus
   pub each : (k : ℕ) → k < length cpus → (upper : ℕ) × (lower : ℕ) × Reg b (getD cpus k 0) upper lower × (getD list k 0 ≡ mpidr upper lower)
 
--- word 4: the number of the leaf's socket, or GAP
+-- the number of the leaf's socket, or GAP
 pub data SocketWord (b : Board) (leaf : ℕ) : ℕ → Type 0 where
   inSocket : (s n : ℕ) → Ancestor (b .nodes) s leaf → Named (nodeName b s) Kind.socket n → SocketWord b leaf n
   noSocket : ((s : ℕ) → Ancestor (b .nodes) s leaf → Is b Kind.socket s → ⊥) → SocketWord b leaf gap
 
--- words 5 to 8: the number of the leaf's cluster with d clusters above it, or GAP
+-- the number of the leaf's cluster with d clusters above it, or GAP
 pub data ClusterWord (b : Board) (leaf d : ℕ) : ℕ → Type 0 where
   inCluster :
       (c n : ℕ) (above : List ℕ) →
@@ -41,17 +37,17 @@ pub data ClusterWord (b : Board) (leaf d : ℕ) : ℕ → Type 0 where
       ((c : ℕ) (above : List ℕ) → ClusterAbove b leaf c → Listing (ClusterAbove b c) above → length above ≡ d → ⊥) →
       ClusterWord b leaf d gap
 
--- word 9: the number of the leaf's core, itself or a thread's parent
+-- the number of the leaf's core, itself or a thread's parent
 pub data CoreWord (b : Board) (leaf : ℕ) : ℕ → Type 0 where
   itself : (n : ℕ) → Named (nodeName b leaf) Kind.core n → CoreWord b leaf n
   ofThread : (p n : ℕ) → Is b Kind.thread leaf → Child (b .nodes) p leaf → Named (nodeName b p) Kind.core n → CoreWord b leaf n
 
--- word 10: the thread's number, or GAP
+-- the thread's number, or GAP
 pub data ThreadWord (b : Board) (leaf : ℕ) : ℕ → Type 0 where
   itself : (n : ℕ) → Named (nodeName b leaf) Kind.thread n → ThreadWord b leaf n
   notThread : (Is b Kind.thread leaf → ⊥) → ThreadWord b leaf gap
 
--- word 11: the slot of an MPIDR in the list of all cpu records' MPIDRs
+-- the slot of an MPIDR in the list of all cpu records' MPIDRs
 pub record SlotWord (b : Board) (m word : ℕ) : Type 0 where
   pub list : List ℕ
   pub mpidrs : Mpidrs b list
@@ -60,18 +56,14 @@ pub record SlotWord (b : Board) (m word : ℕ) : Type 0 where
 -- the words of one row
 pub record RowFits (b : Board) (leaf : ℕ) (row : List ℕ) : Type 0 where
   pub size : length row ≡ rowSize
-  pub leaf-word : getD row 0 0 ≡ leaf
-  pub cpu : Names b leaf (getD row 1 0)
-  pub reg : Reg b (getD row 1 0) (getD row 2 0) (getD row 3 0)
-  pub socket : SocketWord b leaf (getD row 4 0)
-  pub cluster : (d : ℕ) → d < 4 → ClusterWord b leaf d (getD row (5 + d) 0)
-  pub core : CoreWord b leaf (getD row 9 0)
-  pub thread : ThreadWord b leaf (getD row 10 0)
-  pub slot : SlotWord b (mpidr (getD row 2 0) (getD row 3 0)) (getD row 11 0)
-
--- row number k of a table of rows
-abbrev pub rowAt : List ℕ → ℕ → List ℕ
-rowAt rows k = take rowSize (drop (rowSize * k) rows)
+  pub leaf-word : rowLeaf row ≡ leaf
+  pub cpu : Names b leaf (rowCpu row)
+  pub reg : Reg b (rowCpu row) (rowUpper row) (rowLower row)
+  pub socket : SocketWord b leaf (rowSocket row)
+  pub cluster : (d : ℕ) → d < 4 → ClusterWord b leaf d (rowCluster row d)
+  pub core : CoreWord b leaf (rowCore row)
+  pub thread : ThreadWord b leaf (rowThread row)
+  pub slot : SlotWord b (mpidr (rowUpper row) (rowLower row)) (rowSlot row)
 
 -- a table of rows fits the map: one row for each leaf, in leaf record order
 pub record Fits (b : Board) (rows : List ℕ) : Type 0 where

@@ -1,16 +1,18 @@
 -- The row of a leaf, as the writer makes it.
 use mathlib.Core.Bool.{Bool, true, false}
-use mathlib.Core.List.{List, [], _∷_}
+use mathlib.Core.List.{List}
 use Prim.Native.Nat.{ℕ, _/_, _%_, _^_}
-use lib.ListN.{getD}
+use Rattle.layout.specs.declared.Row.{Row}
+use Rattle.layout.specs.Row.{gap}
 use Rattle.names.specs.declared.TopologyName.{TopologyName}
 use Rattle.names.specs.declared.TopologyName.the-variants.{Socket, Cluster, Core, Thread, Other}
 use Rattle.tables.specs.Board.{parentWord}
 use Rattle.tables.specs.declared.Parent.{Parent}
 use Rattle.tables.specs.declared.Parent.the-variants.{Is, Top}
-use Rattle.topology.specs.Path.{gap, topologyName, clusterPath, socketNumber}
+use Rattle.topology.specs.Path.{topologyName, clusterPath, socketNumber, positionOf}
 use Rattle.topology.specs.Check.{topologyNumber}
-use Rattle.rows.specs.declared.Row.{Row}
+use Rattle.rows.specs.declared.Placed.{Placed}
+use Rattle.rows.specs.declared.NamedCpu.{NamedCpu}
 
 -- the core's number: the leaf's own, or for a thread its parent's
 abbrev pub coreOf : TopologyName → TopologyName → ℕ
@@ -36,23 +38,21 @@ keepsPosition (Is p) (Thread n) = true
 keepsPosition (Is p) Other = true
 keepsPosition Top name = false
 
--- the row of leaf record i, which names a cpu record with an MPIDR and a slot; a word holds the low 32 bits of a record number
-unfoldable pub rowOf : List ℕ → List ℕ → ℕ → ℕ → ℕ → ℕ → Row
-rowOf nodes pool i cpu m slot =
+-- record i and its position
+abbrev pub placed : List ℕ → List ℕ → ℕ → Placed
+placed nodes pool i = record { node = i; position = positionOf nodes pool i }
+
+-- the row of leaf record i and of the cpu that it names; a word holds the low 32 bits of a record number
+unfoldable pub rowOf : List ℕ → List ℕ → ℕ → NamedCpu → Row
+rowOf nodes pool i named =
     record {
       leaf = i % 2 ^ 32;
-      cpu = cpu % 2 ^ 32;
-      upper = m / 2 ^ 32;
-      lower = m % 2 ^ 32;
+      cpu = named .cpu % 2 ^ 32;
+      upper = named .mpidr / 2 ^ 32;
+      lower = named .mpidr % 2 ^ 32;
       socket = socketNumber nodes pool i;
       path = clusterPath nodes pool i .numbers;
       core = coreOf (topologyName nodes pool i) (topologyName nodes pool (parentWord nodes i));
       thread = threadOf (topologyName nodes pool i);
-      slot = slot;
+      slot = named .slot;
     }
-
--- a row's words, in order
-unfoldable pub rowWords : Row → List ℕ
-rowWords r =
-    r .leaf ∷ r .cpu ∷ r .upper ∷ r .lower ∷ r .socket ∷ getD (r .path) 0 0 ∷ getD (r .path) 1 0 ∷ getD (r .path) 2 0 ∷ getD (r .path) 3 0
-    ∷ r .core ∷ r .thread ∷ r .slot ∷ []

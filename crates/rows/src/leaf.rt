@@ -1,9 +1,11 @@
 // The row of one leaf.
-use crate::Row;
+use crate::NamedCpu;
+use crate::Placed;
+use layout::GAP;
+use layout::Row;
 use names::TopologyName;
 use tables::Parent;
 use tables::parent_of;
-use topology::GAP;
 use topology::Position;
 use topology::position_of;
 use topology::topology_name;
@@ -11,7 +13,7 @@ use topology::topology_number;
 ghost use mathlib.Core.Path.{_≡_};
 ghost use Rattle.tables.specs.Board.{parentWord};
 ghost use Rattle.topology.specs.Path.{topologyName, positionOf};
-ghost use Rattle.rows.specs.Row.{coreOf, threadOf, keepsPosition, rowOf};
+ghost use Rattle.rows.specs.Row.{coreOf, threadOf, keepsPosition, placed, rowOf};
 
 // The number of a leaf's core: its own, or for a thread that of its parent p.
 fn core_of(nodes: &[u32], pool: &[u8], name: TopologyName, p: usize) -> u32
@@ -72,33 +74,23 @@ fn leaf_position(
     position_of(nodes, pool, leaf)
 }
 
-// The row of a leaf record that names a cpu record with an MPIDR and a slot, given its parent p and the position of p.
-pub fn row_of(
-    nodes: &[u32],
-    pool: &[u8],
-    p: usize,
-    above: Position,
-    leaf: usize,
-    cpu: usize,
-    mpidr: u64,
-    slot: u32,
-) -> Row
-    requires parent { ⌜ p ≡ parentWord (now nodes) leaf ⌝ }
-    requires above { ⌜ above ≡ positionOf (now nodes) (now pool) p ⌝ }
-    ensures { λ r. ⌜ r ≡ rowOf (now (nodes .entry)) (now (pool .entry)) leaf cpu mpidr slot ⌝ }
+// The row of a leaf record and of the cpu that it names, given its parent.
+pub fn row_of(nodes: &[u32], pool: &[u8], above: Placed, leaf: usize, named: NamedCpu) -> Row
+    requires { ⌜ above ≡ placed (now nodes) (now pool) (parentWord (now nodes) leaf) ⌝ }
+    ensures { λ r. ⌜ r ≡ rowOf (now (nodes .entry)) (now (pool .entry)) leaf named ⌝ }
 {
     let name = topology_name(nodes, pool, leaf);
-    let position = leaf_position(nodes, pool, leaf, name, above);
+    let position = leaf_position(nodes, pool, leaf, name, above.position);
     let path = position.clusters.numbers;
     Row {
         leaf: (leaf % 4294967296) as u32,
-        cpu: (cpu % 4294967296) as u32,
-        upper: (mpidr / 4294967296) as u32,
-        lower: (mpidr % 4294967296) as u32,
+        cpu: (named.cpu % 4294967296) as u32,
+        upper: (named.mpidr / 4294967296) as u32,
+        lower: (named.mpidr % 4294967296) as u32,
         socket: position.socket,
         path,
-        core: core_of(nodes, pool, name, p),
+        core: core_of(nodes, pool, name, above.node),
         thread: thread_of(name),
-        slot,
+        slot: named.slot,
     }
 }

@@ -1,21 +1,19 @@
-// Rows of twelve words: one for each leaf, written into a lent buffer.
+// The rows of a board: one for each leaf, written into a lent buffer.
 mod leaf;
 mod write;
 
+use topology::Position;
 pub use write::write_rows;
 
-// The words of a row.
-pub const ROW_WORDS: usize = 12;
+// A node record and its position.
+struct Placed {
+    pub node: usize,
+    pub position: Position,
+}
 
-// What a row holds. Words that the map states nothing for are 0xFFFFFFFF.
-pub struct Row {
-    pub leaf: u32,
-    pub cpu: u32,
-    pub upper: u32,
-    pub lower: u32,
-    pub socket: u32,
-    pub path: [u32; 4],
-    pub core: u32,
-    pub thread: u32,
+// A cpu that a leaf names: its record, its MPIDR and its slot.
+struct NamedCpu {
+    pub cpu: usize,
+    pub mpidr: u64,
     pub slot: u32,
 }

@@ -1,40 +1,16 @@
 // Writing rows: each into its own words of the lent buffer.
-use crate::ROW_WORDS;
-use crate::Row;
+use crate::NamedCpu;
+use crate::Placed;
 use crate::leaf::row_of;
 use affinity::Hash;
+use layout::ROW_WORDS;
+use layout::put_row;
 use tables::node_word;
-use topology::Position;
 use topology::position_of;
 ghost use mathlib.Core.Path.{_≡_};
-ghost use mathlib.Core.List.{_++_};
-ghost use Prim.Native.Nat.{_*_, _≤_};
-ghost use lib.ListN.{length, drop, getD};
-ghost use Rattle.affinity.specs.Hash.{hashOfMask};
-ghost use Rattle.tables.specs.Board.{parentWord};
-ghost use Rattle.topology.specs.Path.{positionOf};
-ghost use Rattle.rows.specs.Fits.{rowSize};
-ghost use Rattle.rows.specs.Row.{rowWords};
-ghost use Rattle.rows.specs.Write.{written, source, rowFrom};
-
-// Writes a row at the start of a part of the row buffer.
-fn put_row(part: &mut [u32], row: Row)
-    requires { ⌜ rowSize ≤ length (now part) ⌝ }
-    ensures { λ _. ⌜ now (part .exit) ≡ rowWords row ++ drop rowSize (now (part .entry)) ⌝ }
-{
-    part[0] = row.leaf;
-    part[1] = row.cpu;
-    part[2] = row.upper;
-    part[3] = row.lower;
-    part[4] = row.socket;
-    part[5] = row.path[0];
-    part[6] = row.path[1];
-    part[7] = row.path[2];
-    part[8] = row.path[3];
-    part[9] = row.core;
-    part[10] = row.thread;
-    part[11] = row.slot;
-}
+ghost use lib.ListN.{getD};
+ghost use Rattle.rows.specs.Row.{placed};
+ghost use Rattle.rows.specs.Write.{namedCpu, written, source};
 
 // An element of a list, 0 outside it.
 fn record_at(list: &[usize], k: usize) -> usize
@@ -46,58 +22,36 @@ fn record_at(list: &[usize], k: usize) -> usize
     0
 }
 
-fn mpidr_at(list: &[u64], k: usize) -> u64
-    ensures { λ r. ⌜ r ≡ getD (now (list .entry)) k 0 ⌝ }
+// Record p and its position, given another record with its own.
+fn placed_at(nodes: &[u32], pool: &[u8], p: usize, last: Placed) -> Placed
+    requires { ⌜ last ≡ placed (now nodes) (now pool) (last .node) ⌝ }
+    ensures { λ r. ⌜ r ≡ placed (now (nodes .entry)) (now (pool .entry)) p ⌝ }
 {
-    if k < list.len() {
-        return list[k];
+    if p == last.node {
+        return last;
     }
-    0
+    Placed {
+        node: p,
+        position: position_of(nodes, pool, p),
+    }
 }
 
-// The position of record p, given that of the record `last`.
-fn position_at(nodes: &[u32], pool: &[u8], p: usize, last: usize, above: Position) -> Position
-    requires { ⌜ above ≡ positionOf (now nodes) (now pool) last ⌝ }
-    ensures { λ r. ⌜ r ≡ positionOf (now (nodes .entry)) (now (pool .entry)) p ⌝ }
+// The cpu at an index of the cpu records and their MPIDRs, with its slot. What a list does not have is 0.
+fn named_cpu(cpus: &[usize], mpidrs: &[u64], index: usize, hash: Hash) -> NamedCpu
+    ensures { λ r. ⌜ r ≡ namedCpu (now (cpus .entry)) (now (mpidrs .entry)) index hash ⌝ }
 {
-    if p == last {
-        return above;
+    let mut mpidr: u64 = 0;
+    if index < mpidrs.len() {
+        mpidr = mpidrs[index];
     }
-    position_of(nodes, pool, p)
-}
-
-// The row of a leaf, given its parent p, the position of p and the index of its cpu among the cpu records.
-fn leaf_row(
-    nodes: &[u32],
-    pool: &[u8],
-    p: usize,
-    above: Position,
-    leaf: usize,
-    cpus: &[usize],
-    mpidrs: &[u64],
-    index: usize,
-    hash: Hash,
-) -> Row
-    requires parent { ⌜ p ≡ parentWord (now nodes) leaf ⌝ }
-    requires above { ⌜ above ≡ positionOf (now nodes) (now pool) p ⌝ }
-    ensures { λ r.
-        ⌜ r ≡ rowFrom (now (nodes .entry)) (now (pool .entry)) leaf (now (cpus .entry)) (now (mpidrs .entry)) index hash ⌝ }
-{
-    let mpidr = mpidr_at(mpidrs, index);
-    let slot = affinity::slot_of(hash, mpidr);
-    row_of(
-        nodes,
-        pool,
-        p,
-        above,
-        leaf,
-        record_at(cpus, index),
+    NamedCpu {
+        cpu: record_at(cpus, index),
         mpidr,
-        slot,
-    )
+        slot: affinity::slot_of(hash, mpidr),
+    }
 }
 
-// Writes a row for each leaf.
+// Writes a row for each leaf; nothing where there is no room for all of them.
 pub fn write_rows(
     rows: &mut [u32],
     nodes: &[u32],
@@ -108,22 +62,27 @@ pub fn write_rows(
     named: &[usize],
     hash: Hash,
 )
-    requires room { ⌜ rowSize * length (now leaves) ≤ length (now rows) ⌝ }
-    requires hash { ⌜ hash ≡ hashOfMask (hash .mask) ⌝ }
     ensures { λ _.
-        ⌜ now (rows .exit) ≡ written (source (now (nodes .entry)) (now (pool .entry)) (now (cpus .entry)) (now (mpidrs .entry)) (now (leaves .entry)) (now (named .entry)) hash) (now (rows .entry)) ⌝ }
+        let s = source (now (nodes .entry)) (now (pool .entry)) (now (cpus .entry)) (now (mpidrs .entry))
+        (now (leaves .entry)) (now (named .entry)) hash in
+        ⌜ now (rows .exit) ≡ written s (now (rows .entry)) ⌝ }
 {
     let count = leaves.len();
-    let mut parent: usize = 0;
-    let mut above = position_of(nodes, pool, 0);
+    if rows.len() / ROW_WORDS < count {
+        return;
+    }
+    let mut above = Placed {
+        node: 0,
+        position: position_of(nodes, pool, 0),
+    };
     let mut k: usize = 0;
     while k < count {
         let leaf = leaves[k];
         let p = node_word(nodes, leaf, 0);
-        above = position_at(nodes, pool, p, parent, above);
-        parent = p;
+        above = placed_at(nodes, pool, p, above);
         let index = record_at(named, k);
-        let row = leaf_row(nodes, pool, p, above, leaf, cpus, mpidrs, index, hash);
+        let cpu = named_cpu(cpus, mpidrs, index, hash);
+        let row = row_of(nodes, pool, above, leaf, cpu);
         let start = ROW_WORDS * k;
         put_row(&mut rows[start..], row);
         k += 1;

@@ -10,6 +10,7 @@ use borrow.Author.Tests.{lt-ltb, le-ltb, le-leb, lt-leb, eq-eqb, ne-eqb}
 use Rattle.laws.specs.declared.Fault.{Fault}
 use Rattle.laws.specs.Fault.{firstFault, orNumber}
 use Rattle.laws.specs.Search.{countBelow}
+use Rattle.layout.specs.Row.{gap}
 use Rattle.names.specs.declared.TopologyName.{TopologyName}
 use Rattle.names.specs.declared.TopologyName.the-variants.{Socket, Cluster, Core, Thread, Other}
 use Rattle.names.specs.Name.{nameOf}
@@ -19,7 +20,7 @@ use Rattle.tables.specs.Tree.{isChild, parentOf, climb, isBelow, Child, Ancesto
 use Rattle.tables.proofs.TreeLaws.{parent-is, parent-top, the-parent, climb-parent, climb-none, climb-keeps, below-ancestor}
 use Rattle.topology.specs.declared.ClusterPath.{ClusterPath}
 use Rattle.topology.specs.declared.Position.{Position}
-use Rattle.topology.specs.Path.{gap, topologyName, noClusters, extend, clusterStep, clusterPath, socketStep, socketNumber, noPosition, positionStep, positionOf}
+use Rattle.topology.specs.Path.{topologyName, noClusters, extend, clusterStep, clusterPath, socketStep, socketNumber, noPosition, positionStep, positionOf}
 use Rattle.topology.specs.Find.{mapOf, secondMapFault, mapFault, mapScan}
 use Rattle.topology.specs.Check.{hasChild, kindNumber, kindFault, numberFault, shapeFault, isLeafName, mapRecordFault, shape, mapRecordShape}
 use Rattle.laws.proofs.PassLaws.{count-none}

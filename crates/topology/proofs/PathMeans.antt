@@ -9,6 +9,7 @@ use lib.ListN.{length, take, length-map}
 use Rattle.laws.specs.Listing.{Listing}
 use Rattle.laws.proofs.SearchLaws.{true-false}
 use Rattle.laws.proofs.AppendListingLaws.{listing-same, listing-none, listing-more}
+use Rattle.layout.specs.Row.{gap}
 use Rattle.names.specs.declared.TopologyName.{TopologyName}
 use Rattle.names.specs.declared.TopologyName.the-variants.{Socket, Cluster, Core, Thread, Other}
 use Rattle.names.specs.Kind.{Kind}
@@ -20,7 +21,7 @@ use Rattle.tables.proofs.DepthLaws.{ancestor-earlier}
 use Rattle.wellformed.proofs.WellFormedLaws.{wf-depth}
 use Rattle.topology.specs.declared.ClusterPath.{ClusterPath}
 use Rattle.topology.specs.Map.{Is, ClusterAbove}
-use Rattle.topology.specs.Path.{gap, topologyName, noClusters, extend, clusterStep, clusterPath}
+use Rattle.topology.specs.Path.{topologyName, noClusters, extend, clusterStep, clusterPath}
 use Rattle.topology.specs.Check.{topologyNumber}
 use Rattle.topology.proofs.NameFacts.{Says, topology-says, kinds-apart}
 use Rattle.topology.proofs.WithinMeans.{Within, parent-induction, within-above, above-within, child-has, climb-child, within-le, top-zero}

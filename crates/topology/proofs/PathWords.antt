@@ -10,13 +10,14 @@ use Rattle.laws.specs.Listing.{Member, Listing}
 use Rattle.laws.proofs.SearchLaws.{lt-or-le}
 use Rattle.laws.proofs.ListingLaws.{listing-unique}
 use Rattle.laws.proofs.AppendListingLaws.{listing-same, listing-take}
+use Rattle.layout.specs.Row.{gap}
 use Rattle.names.specs.Kind.{Kind, Named}
 use Rattle.tables.specs.Board.{Board, nodeCount, nodeName}
 use Rattle.wellformed.specs.Rules.{WellFormed}
 use Rattle.tables.proofs.DepthLaws.{ancestor-earlier}
 use Rattle.topology.specs.declared.ClusterPath.{ClusterPath}
 use Rattle.topology.specs.Map.{Is, ClusterAbove}
-use Rattle.topology.specs.Path.{gap, clusterPath}
+use Rattle.topology.specs.Path.{clusterPath}
 use Rattle.topology.specs.Check.{topologyNumber}
 use Rattle.topology.proofs.NameFacts.{topology-is}
 use Rattle.topology.proofs.WithinMeans.{within-trans, within-order, within-le}

@@ -5,6 +5,7 @@ use mathlib.Core.Logic.{inl, inr, ⊎-elim}
 use Prim.Native.Nat.{ℕ, _≤_, _<_}
 use native.Mathlib.Nat.{le-antisymm}
 use native.Mathlib.Omega.{arith}
+use Rattle.layout.specs.Row.{gap}
 use Rattle.names.specs.declared.TopologyName.{TopologyName}
 use Rattle.names.specs.Kind.{Kind, Named}
 use Rattle.names.proofs.NameMeans.{named-unique}
@@ -15,7 +16,7 @@ use Rattle.tables.proofs.TreeLaws.{climb-none}
 use Rattle.tables.proofs.DepthLaws.{ancestor-earlier}
 use Rattle.wellformed.proofs.WellFormedLaws.{wf-depth}
 use Rattle.topology.specs.Map.{Is}
-use Rattle.topology.specs.Path.{gap, topologyName, socketStep, socketNumber}
+use Rattle.topology.specs.Path.{topologyName, socketStep, socketNumber}
 use Rattle.topology.proofs.NameFacts.{Says, topology-says, kinds-apart}
 use Rattle.topology.proofs.WithinMeans.{Within, parent-induction, within-above, above-within, climb-child, within-le, top-zero}
 

@@ -5,6 +5,7 @@ use Prim.Native.Nat.{ℕ, _+_}
 use lib.ListN.{set}
 use lib.Dec.{ltb, leb}
 use lib.ListN.{length}
+use Rattle.layout.specs.Row.{gap}
 use Rattle.names.specs.declared.TopologyName.{TopologyName}
 use Rattle.names.specs.declared.TopologyName.the-variants.{Socket, Cluster, Core, Thread, Other}
 use Rattle.names.specs.Name.{nameOf}
@@ -12,10 +13,6 @@ use Rattle.tables.specs.Board.{range, nameOffset, nameLength, nodeCount}
 use Rattle.tables.specs.Tree.{climb}
 use Rattle.topology.specs.declared.ClusterPath.{ClusterPath}
 use Rattle.topology.specs.declared.Position.{Position}
-
--- GAP: what a row holds where the map states nothing
-abbrev pub gap : ℕ
-gap = 0xFFFFFFFF
 
 -- what record i's name says; Other where it is no record or its name leaves the pool
 unfoldable pub topologyName : List ℕ → List ℕ → ℕ → TopologyName

@@ -8,7 +8,6 @@ mod shape;
 
 pub use find::find_map;
 pub use kind::topology_number;
-pub use path::GAP;
 pub use path::topology_name;
 pub use positions::position_of;
 pub use record::record_shape;

@@ -1,13 +1,11 @@
 // What a record's name says, and the clusters on a path, outermost first.
 use crate::ClusterPath;
+use layout::GAP;
 use names::TopologyName;
 use names::name_of;
 use tables::node_word;
 ghost use mathlib.Core.Path.{_≡_};
 ghost use Rattle.topology.specs.Path.{topologyName, noClusters, extend, clusterStep};
-
-// What a row holds where the map states nothing.
-pub const GAP: u32 = 0xFFFFFFFF;
 
 // What record i's name says. Other where it is no record or its name leaves the pool.
 pub fn topology_name(nodes: &[u32], pool: &[u8], i: usize) -> TopologyName

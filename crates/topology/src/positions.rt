@@ -1,9 +1,9 @@
 // Where a record stands: its socket and its clusters, read together.
 use crate::ClusterPath;
 use crate::Position;
-use crate::path::GAP;
 use crate::path::cluster_step;
 use crate::path::topology_name;
+use layout::GAP;
 use names::TopologyName;
 use tables::Parent;
 use tables::parent_of;

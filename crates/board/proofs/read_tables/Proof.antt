@@ -1,21 +1,18 @@
 -- `read_tables` refuses what the survey refuses, then where there is no room, and else writes the rows. Assumes nothing.
-use Rattle.leaves.specs.Scan.{leavesOf, namedOf}
-use mathlib.Core.Path.{_≡_, refl, sym, ap, _∙_}
-use mathlib.Core.List.{List, map}
-use Prim.Native.Nat.{ℕ, _*_, _≤_, _<_}
+use Rattle.topology.specs.Scan.{leavesOf, namedOf}
+use mathlib.Core.Path.{_≡_, sym, ap, _∙_}
+use mathlib.Core.List.{List}
+use Prim.Native.Nat.{ℕ, _≤_}
 use native.Mathlib.Omega.{arith}
-use lib.ListN.{length, take, replicate, length-map, length-replicate}
-use Rattle.laws.specs.Listed.{over}
+use lib.ListN.{length, replicate, length-map, length-replicate}
 use Rattle.affinity.specs.Mask.{maskOf}
 use Rattle.affinity.specs.Hash.{hashOfMask}
 use Rattle.tables.specs.Board.{Board, Typed, board}
-use Rattle.cpus.specs.Rules.{maxCpus}
 use Rattle.cpus.specs.Check.{cpuCount, cpuList, mpidrList}
 use Rattle.cpus.proofs.CpuMeans.{cpu-count}
-use Rattle.rows.specs.Fits.{rowSize}
 use Rattle.board.specs.Survey.{surveyFault, surveyOf, Lists}
 use Rattle.board.proofs.FrontLaws.{front-fits, front-size, front-is}
-use Rattle.board.proofs.ReadLaws.{Met, refuses-survey, none, counts, refuses-room, accepts, hash-made}
+use Rattle.board.proofs.ReadLaws.{refuses-survey, none, counts, refuses-room, accepts}
 use Rattle.board.proofs.SurveyLaws.{survey-few}
 use borrow.Author.Needs.{needs}
 use Rattle.board.proofs.read_tables.Statement.{statement}
@@ -141,11 +138,7 @@ slice-aggregate-write-rows-3 : tie.Need-slice-aggregate-write-rows-3
 slice-aggregate-write-rows-3 c = let e = c .before .before .before .before .before .before .before .before in front-size _ _ (lists e .named-laid) (named-size e) (few-named e)
 
 write-rows-requires : tie.Need-write-rows-requires
-write-rows-requires c κs =
-    let hashed = c .before .before .before .before in
-    let e = hashed .before .before .before .before in
-    let leaves = ap length (front-is _ _ (lists e .leaves-laid) (leaf-size e) (few-leaves e)) in
-    (omega (arith, leaves, survey-few (b e) (clear e) .1, hashed .before .before .before .if2 .left, cpus-are e), hash-made _ (hashed .hash-of-mask .ensures))
+write-rows-requires c κs = search needs
 
 hash-of-mask-requires : tie.Need-hash-of-mask-requires
 hash-of-mask-requires c κs = search needs

@@ -17,7 +17,8 @@ returns c =
     let parent = test .before in
     let start = parent .before .before .before in
     let kept = sym (test .keeps-position .ensures) ∙ c .if1 .taken in
-    position-kept (start .args .nodes .now) (start .args .pool .now) (start .args .leaf) (parent .parent-of .ensures) (start .pre .0) (start .pre .1) kept
+    let a = start .args in
+    position-kept (a .nodes .now) (a .pool .now) (a .leaf) (parent .parent-of .ensures) (start .pre .0) (start .pre .1) kept
 
 position-of-requires : tie.Need-position-of-requires
 position-of-requires c κs = search needs

@@ -1,33 +1,35 @@
 -- `write_rows` writes row after row, each behind those before it. Assumes nothing.
-use mathlib.Core.Path.{_≡_, refl, _∙_}
+use mathlib.Core.Path.{_≡_, refl, ap, _∙_}
 use mathlib.Core.List.{_++_}
 use Prim.Native.Nat.{_+_, _*_, _-_, _^_, _≤_, _<_}
 use native.Mathlib.Omega.{arith}
 use lib.ListN.{length, drop, getD}
 use borrow.Author.Needs.{needs}
+use borrow.Author.Tests.{lt-ltb, le-ltb}
 use borrow.Rule.Slice.PartMut.{same-len-mid}
+use Rattle.layout.specs.Row.{rowSize}
 use Rattle.tables.proofs.CodePool.{word-zero}
-use Rattle.topology.specs.Path.{positionOf}
-use Rattle.rows.specs.Fits.{rowSize}
+use Rattle.rows.specs.Row.{placed}
 use Rattle.rows.specs.Write.{Source, source, rowNumber, rowsBelow, written}
-use Rattle.rows.proofs.TurnLaws.{from-number, row-more}
+use Rattle.rows.proofs.RowLaws.{number-made, row-more}
+use Rattle.rows.proofs.PositionLaws.{placed-own}
 use Rattle.rows.proofs.write.write_rows.Statement.{statement}
 use Rattle.rows.proofs.write.write_rows.Tie as tie
 
 abbrev Inv-loop : tie.InvT-loop
-Inv-loop rows₀ nodes pool cpus mpidrs leaves named hash count parent₀ above₀ k₀ rows parent above k =
+Inv-loop rows₀ nodes pool cpus mpidrs leaves named hash count above₀ k₀ rows above k =
     (k ≤ count)
     × (rowSize * count ≤ length rows₀)
     × (length rows ≡ length rows₀)
     × (rows ≡ rowsBelow (source nodes pool cpus mpidrs leaves named hash) k ++ drop (rowSize * k) rows₀)
-    × (above ≡ positionOf nodes pool parent)
+    × (above ≡ placed nodes pool (above .node))
 
 abbrev μ-loop : tie.MeasureT-loop
-μ-loop rows₀ nodes pool cpus mpidrs leaves named hash count parent₀ above₀ k₀ rows parent above k = count - k
+μ-loop rows₀ nodes pool cpus mpidrs leaves named hash count above₀ k₀ rows above k = count - k
 
 -- the start, and what the rows are made of
 abbrev begun : tie.At-loop Inv-loop μ-loop → tie.Start Inv-loop μ-loop
-begun c = c .before .before .before .before .before .before .before .before .before
+begun c = c .before .before .before .before .before .before .before .before .before .before
 
 abbrev from : tie.At-loop Inv-loop μ-loop → Source
 from c =
@@ -35,14 +37,14 @@ from c =
     source (a .nodes .now) (a .pool .now) (a .cpus .now) (a .mpidrs .now) (a .leaves .now) (a .named .now) (a .hash)
 
 -- the turn in which a row is made
-abbrev turn : tie.After-leaf-row Inv-loop μ-loop → tie.In-loop Inv-loop μ-loop
-turn c = c .before .before .before .before .before
+abbrev turn : tie.After-row-of Inv-loop μ-loop → tie.In-loop Inv-loop μ-loop
+turn c = c .before .before .before .before .before .before
 
 -- the row is that of leaf k
-made : (c : tie.After-leaf-row Inv-loop μ-loop) → let at = turn c .before in c .leaf-row .result ≡ rowNumber (from at) (at .loop .k)
+made : (c : tie.After-row-of Inv-loop μ-loop) → let at = turn c .before in c .row-of .result ≡ rowNumber (from at) (at .loop .k)
 made c =
     let at = turn c .before in
-    from-number (from at) (at .loop .k) (c .leaf-row .ensures) (c .before .record-at .ensures) (begun at .pre .1)
+    number-made (from at) (at .loop .k) (c .row-of .ensures) (c .before .named-cpu .ensures) (c .before .before .record-at .ensures)
 
 -- it has its place in the buffer, and the buffer in memory
 place :
@@ -55,12 +57,18 @@ place c =
     let inv = at .loop .inv in
     (c .loop-test .taken, omega (arith, inv .1, inv .2, c .loop-test .taken), omega (arith, begun at .good .0 .1, inv .2))
 
+returns : tie.Need-returns Inv-loop μ-loop
+unfolding written
+returns c =
+    let a = c .before .before .before .before .before .before .before .before .args in
+    rw (lt-ltb (length (a .rows .now)) (rowSize * length (a .leaves .now)) (omega arith))
+
 position-of-requires : tie.Need-position-of-requires Inv-loop μ-loop
 position-of-requires c κs = search needs
 
 loop-holds : tie.Need-loop-holds Inv-loop μ-loop
 unfolding rowsBelow
-loop-holds c = (omega arith, omega arith, refl, refl, c .position-of .ensures)
+loop-holds c = (omega arith, omega arith, refl, refl, rw (c .position-of .ensures))
 
 mul-leaf : tie.Need-mul-leaf Inv-loop μ-loop
 mul-leaf c = search needs
@@ -71,19 +79,23 @@ shared-slice-read-leaf c = search needs
 node-word-requires : tie.Need-node-word-requires Inv-loop μ-loop
 node-word-requires c κs = search needs
 
-position-at-requires : tie.Need-position-at-requires Inv-loop μ-loop
-position-at-requires c κs = c .before .before .before .loop .inv .4
+placed-at-requires : tie.Need-placed-at-requires Inv-loop μ-loop
+placed-at-requires c κs = c .before .before .before .loop .inv .4
 
 record-at-requires : tie.Need-record-at-requires Inv-loop μ-loop
 record-at-requires c κs = search needs
 
-leaf-row-requires : tie.Need-leaf-row-requires Inv-loop μ-loop
-leaf-row-requires c κs =
-    let position = c .before in
-    let word = position .before in
+named-cpu-requires : tie.Need-named-cpu-requires Inv-loop μ-loop
+named-cpu-requires c κs = search needs
+
+row-of-requires : tie.Need-row-of-requires Inv-loop μ-loop
+row-of-requires c κs =
+    let above = c .before .before in
+    let word = above .before in
     let at = word .before .before .before in
     let a = begun at .args in
-    (word .node-word .ensures ∙ word-zero (a .nodes .now) (3 * getD (a .leaves .now) (at .loop .k) 0), position .position-at .ensures)
+    above .placed-at .ensures
+    ∙ ap (placed (a .nodes .now) (a .pool .now)) (word .node-word .ensures ∙ word-zero (a .nodes .now) (3 * getD (a .leaves .now) (at .loop .k) 0))
 
 mul-start : tie.Need-mul-start Inv-loop μ-loop
 mul-start c = search (needs, place (turn c))
@@ -101,7 +113,7 @@ part-put-row-end : tie.Need-part-put-row-end Inv-loop μ-loop
 part-put-row-end c = search needs
 
 put-row-requires : tie.Need-put-row-requires Inv-loop μ-loop
-put-row-requires c κs = search (needs, place (turn (c .before)))
+put-row-requires c κs = search needs
 
 add-k : tie.Need-add-k Inv-loop μ-loop
 add-k c = search (needs, place (turn (c .before .before .before .before)))
@@ -119,19 +131,19 @@ loop-again c =
       omega (arith, place (turn row)),
       inv .1,
       same-len-mid (rowSize * at .loop .k) (length xs - rowSize * at .loop .k) xs (call .last .0) (call .kept .0) ∙ inv .2,
-      row-more (from at) (begun at .args .rows .now) xs (call .last .0) (at .loop .k) (inv .3) (made row) (call .ensures),
-      row .before .before .position-at .ensures,
+      row-more (from at) (begun at .args .rows .now) xs (call .last .0) (at .loop .k) (inv .3) (made row) (place (turn row) .1) (call .ensures),
+      placed-own (begun at .args .nodes .now) (begun at .args .pool .now) (row .before .before .before .placed-at .ensures),
     )
 
 same-length : tie.Need-same-length Inv-loop μ-loop
 same-length c = search needs
 
-returns : tie.Need-returns Inv-loop μ-loop
+returns-2 : tie.Need-returns-2 Inv-loop μ-loop
 unfolding written
-returns c =
+returns-2 c =
     let at = c .before in
     let whole : at .loop .k ≡ length (begun at .args .leaves .now) = omega arith in
-    rw whole at (at .loop .inv .3)
+    rw (le-ltb _ _ (at .loop .inv .1)) (rw whole at (at .loop .inv .3))
 
 pub write-rows-spec : {M : Type 1} → statement M
 write-rows-spec =
@@ -139,14 +151,16 @@ write-rows-spec =
     (tie.spec
     Inv-loop
     μ-loop
+    returns
     position-of-requires
     loop-holds
     mul-leaf
     shared-slice-read-leaf
     node-word-requires
-    position-at-requires
+    placed-at-requires
     record-at-requires
-    leaf-row-requires
+    named-cpu-requires
+    row-of-requires
     mul-start
     mul-put-row
     sub-put-row
@@ -157,4 +171,4 @@ write-rows-spec =
     loop-less
     loop-again
     same-length
-    returns)
+    returns-2)

@@ -1,11 +1,18 @@
--- `put_row` writes a row's words, and the rest stays. Assumes nothing.
+-- `put_row` writes a row's words, and the rest stays; a part too short stays whole. Assumes nothing.
+use mathlib.Core.Path.{sym, _∙_}
 use native.Mathlib.Omega.{arith}
-use lib.ListN.{length-set}
+use lib.ListN.{length, length-set}
 use lib.Seq.{sets-eq}
-use Rattle.rows.specs.Row.{rowWords}
+use borrow.Author.Tests.{lt-ltb}
 use borrow.Author.Needs.{needs}
-use Rattle.rows.proofs.write.put_row.Statement.{statement}
-use Rattle.rows.proofs.write.put_row.Tie as tie
+use Rattle.layout.specs.Row.{rowSize, rowWords, withRow}
+use Rattle.layout.proofs.RowLaws.{with-row}
+use Rattle.layout.proofs.put_row.Statement.{statement}
+use Rattle.layout.proofs.put_row.Tie as tie
+
+returns : tie.Need-returns
+unfolding withRow
+returns c = rw (lt-ltb (length (c .before .args .part .now)) rowSize (omega arith))
 
 slice-write-part : tie.Need-slice-write-part
 slice-write-part c = search needs
@@ -58,16 +65,18 @@ slice-write-part-12 c = simp length-set (omega arith)
 same-length : tie.Need-same-length
 same-length c = simp length-set
 
-returns : tie.Need-returns
+returns-2 : tie.Need-returns-2
 unfolding rowWords
-returns c =
-    let start = c .before .before .before .before in
-    sets-eq (rowWords (start .args .t2)) (start .args .part .now) 0 (omega arith)
+returns-2 c =
+    let test = c .before .before .before .before in
+    let a = test .before .args in
+    sets-eq (rowWords (a .t2)) (a .part .now) 0 (omega arith) ∙ sym (with-row (a .t2) (a .part .now) (omega arith))
 
 pub put-row-spec : {M : Type 1} → statement M
 put-row-spec =
     tie.close
     (tie.spec
+    returns
     slice-write-part
     slice-write-part-2
     slice-write-part-3
@@ -85,4 +94,4 @@ put-row-spec =
     slice-write-part-11
     slice-write-part-12
     same-length
-    returns)
+    returns-2)

@@ -1,0 +1,2 @@
+-- What the contracts of `layout` cite: the words of a row, and rows in a table.
+pub mod Row
