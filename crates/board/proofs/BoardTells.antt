@@ -25,7 +25,7 @@ use Rattle.cpus.proofs.CpuTells.{cpus-tells, phandles-tells}
 use Rattle.leaves.specs.Scan.{treeAt, leavesFault}
 use Rattle.topology.proofs.MapMeans.{map-is}
 use Rattle.topology.proofs.MapTells.{map-tells}
-use Rattle.topology.proofs.TreeTells.{tree-tells}
+use Rattle.leaves.proofs.TreeTells.{tree-tells}
 use Rattle.board.specs.Rules.{Breaks}
 use Rattle.board.specs.Answer.{boardFault, roomFault}
 use Rattle.board.proofs.LayerLaws.{board-stages}

@@ -20,7 +20,7 @@ use Rattle.cpus.specs.Rules.{maxCpus}
 use Rattle.cpus.specs.Check.{cpuCount, countFault, rootFault, cpusFault, phandlesFault, mpidrList}
 use Rattle.topology.specs.declared.MapScan.{MapScan}
 use Rattle.topology.specs.Find.{mapOf, mapFault, mapScan}
-use Rattle.topology.specs.Scan.{leavesFault, treeOf, leavesOf}
+use Rattle.leaves.specs.Scan.{leavesFault, treeOf, leavesOf}
 use Rattle.rows.specs.Write.{written, sourceOf}
 use Rattle.board.specs.declared.BoardAnswer.{BoardAnswer}
 use Rattle.board.specs.declared.Surveyed.{Surveyed}

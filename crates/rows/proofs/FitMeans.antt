@@ -16,8 +16,8 @@ use Rattle.cpus.proofs.RegMeans.{reg-bounds}
 use Rattle.cpus.proofs.CpuGives.{cpu-reg}
 use Rattle.topology.specs.Map.{Map, Leaf, Names}
 use Rattle.topology.specs.Rules.{MapRule}
-use Rattle.topology.specs.Scan.{leavesOf}
-use Rattle.topology.proofs.CheckLeaf.{leaf-in-map, in-map-inside}
+use Rattle.leaves.specs.Scan.{leavesOf}
+use Rattle.leaves.proofs.CheckLeaf.{leaf-in-map, in-map-inside}
 use Rattle.rows.specs.Row.{rowOf}
 use Rattle.rows.specs.Write.{rowsBelow, sourceOf}
 use Rattle.rows.specs.Fits.{RowFits, Fits}

@@ -20,8 +20,8 @@ use Rattle.cpus.proofs.RegMeans.{reg-unique}
 use Rattle.topology.specs.Map.{InMap, Is, Leaf}
 use Rattle.topology.specs.Rules.{MapRule}
 use Rattle.topology.proofs.NameFacts.{kinds-apart}
-use Rattle.topology.proofs.LeafMeans.{names-unique}
-use Rattle.topology.proofs.CheckLeaf.{leaf-in-map}
+use Rattle.leaves.proofs.LeafMeans.{names-unique}
+use Rattle.leaves.proofs.CheckLeaf.{leaf-in-map}
 use Rattle.rows.specs.Fits.{Mpidrs, SocketWord, CoreWord, ThreadWord, SlotWord, RowFits, Fits}
 use Rattle.rows.proofs.ShapeLaws.{socket-unique}
 use Rattle.rows.proofs.WordMeans.{cluster-word-only}

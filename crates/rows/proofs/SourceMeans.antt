@@ -18,10 +18,10 @@ use Rattle.cpus.proofs.CpuGives.{cpu-reg}
 use Rattle.topology.specs.Map.{Map, Leaf, Names}
 use Rattle.topology.specs.Find.{mapOf}
 use Rattle.topology.specs.Rules.{MapRule}
-use Rattle.topology.specs.Scan.{cpuOf, treeOf, leavesOf}
+use Rattle.leaves.specs.Scan.{cpuOf, treeOf, leavesOf}
 use Rattle.topology.proofs.MapMeans.{map-of, map-found}
-use Rattle.topology.proofs.PhandleMeans.{cpuAt}
-use Rattle.topology.proofs.TreeGives.{leaf-listing, leaf-names, leaf-cpu, leaves-apart, same-count}
+use Rattle.leaves.proofs.PhandleMeans.{cpuAt}
+use Rattle.leaves.proofs.TreeGives.{leaf-listing, leaf-names, leaf-cpu, leaves-apart, same-count}
 use Rattle.rows.specs.Row.{rowOf}
 use Rattle.rows.specs.Write.{rowNumber, sourceOf}
 use Rattle.rows.specs.Fits.{Mpidrs}

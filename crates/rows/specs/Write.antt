@@ -10,7 +10,7 @@ use Rattle.affinity.specs.declared.Hash.{Hash}
 use Rattle.affinity.specs.Hash.{hashOf, slotGuarded}
 use Rattle.tables.specs.Board.{Board}
 use Rattle.cpus.specs.Check.{cpuList, mpidrList}
-use Rattle.topology.specs.Scan.{leavesOf, namedOf}
+use Rattle.leaves.specs.Scan.{leavesOf, namedOf}
 use Rattle.rows.specs.declared.NamedCpu.{NamedCpu}
 use Rattle.rows.specs.Row.{rowOf}
 

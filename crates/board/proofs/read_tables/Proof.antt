@@ -1,5 +1,5 @@
 -- `read_tables` refuses what the survey refuses, then where there is no room, and else writes the rows. Assumes nothing.
-use Rattle.topology.specs.Scan.{leavesOf, namedOf}
+use Rattle.leaves.specs.Scan.{leavesOf, namedOf}
 use mathlib.Core.Path.{_≡_, sym, ap, _∙_}
 use mathlib.Core.List.{List}
 use Prim.Native.Nat.{ℕ, _≤_}
