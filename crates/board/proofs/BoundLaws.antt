@@ -11,7 +11,7 @@ use Rattle.laws.proofs.FaultLaws.{place-le}
 use Rattle.laws.proofs.OrElseLaws.{or-clear}
 use Rattle.laws.proofs.RuleStageLaws.{told-place, else-place}
 use Rattle.tables.specs.Board.{Board, nodeCount}
-use Rattle.tables.specs.Limits.{maxProperties}
+use Rattle.wellformed.specs.Limits.{maxProperties}
 use Rattle.wellformed.specs.Check.{tableFault}
 use Rattle.wellformed.proofs.RuleLaws.{table-place, table-sound}
 use Rattle.wellformed.proofs.WellFormedLaws.{wf-nodes}

@@ -11,7 +11,7 @@ use borrow.Author.Tests.{ne-eqb, lt-ltb, le-ltb, ltb-true}
 use Rattle.laws.specs.Search.{lowest}
 use Rattle.laws.proofs.SearchLaws.{lt-or-le}
 use Rattle.tables.specs.declared.Lookup.the-variants.{At, Missing}
-use Rattle.tables.specs.Limits.{maxNodes, maxProperties}
+use Rattle.wellformed.specs.Limits.{maxNodes, maxProperties}
 use Rattle.tables.specs.Board.{propCount, propNode, keyOffset, keyLength}
 use Rattle.tables.specs.Property.{isProperty, foundBelow, lookup}
 use Rattle.keys.specs.declared.Key.{Key}

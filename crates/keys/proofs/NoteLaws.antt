@@ -10,7 +10,7 @@ use lib.Seq.{getD-set-same, getD-set-other}
 use borrow.Author.Tests.{lt-ltb, ltb-true, eqb-true, eq-eqb}
 use Rattle.laws.proofs.SearchLaws.{true-false}
 use Rattle.laws.proofs.TestLaws.{both-true}
-use Rattle.tables.specs.Limits.{maxNodes}
+use Rattle.wellformed.specs.Limits.{maxNodes}
 use Rattle.tables.specs.Board.{propNode, keyOffset, keyLength}
 use Rattle.keys.specs.Index.{keyOf, noted, notedKey, keysBelow}
 

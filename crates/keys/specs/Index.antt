@@ -6,7 +6,7 @@ use lib.Dec.{ltb, eqb}
 use lib.ListN.{getD, set}
 use Rattle.tables.specs.declared.Lookup.{Lookup}
 use Rattle.tables.specs.declared.Lookup.the-variants.{At, Missing}
-use Rattle.tables.specs.Limits.{maxNodes, maxProperties}
+use Rattle.wellformed.specs.Limits.{maxNodes, maxProperties}
 use Rattle.tables.specs.Board.{rangeIs, propCount, propNode, keyOffset, keyLength}
 use Rattle.keys.specs.declared.Key.{Key}
 use Rattle.keys.specs.Key.{regKey, cpuKey, phandleKey, deviceTypeKey, keyNumber}

@@ -1,16 +1,9 @@
 // A board's three tables, read without trusting them: records, ancestors, ranges of the pool, properties.
-mod limits;
 mod pool;
 mod property;
 mod tree;
 mod words;
 
-pub use limits::MAX_NODE_NAME;
-pub use limits::MAX_NODES;
-pub use limits::MAX_POOL;
-pub use limits::MAX_PROPERTIES;
-pub use limits::MAX_PROPERTY_NAME;
-pub use limits::NO_PARENT;
 pub use pool::cell_at;
 pub use pool::is_inside;
 pub use pool::range_is;
@@ -19,7 +12,6 @@ pub use tree::is_below;
 pub use tree::is_child;
 pub use tree::name_is;
 pub use tree::parent_of;
-pub use words::node_count;
 pub use words::node_word;
 pub use words::prop_word;
 pub use words::wide;

@@ -2,14 +2,6 @@
 ghost use mathlib.Core.Path.{_≡_};
 ghost use Prim.Native.Nat.{_+_, _*_};
 ghost use lib.ListN.{getD};
-ghost use Rattle.tables.specs.Board.{nodeCount};
-
-// How many node records there are.
-pub fn node_count(nodes: &[u32]) -> usize
-    ensures { λ r. ⌜ r ≡ nodeCount (now (nodes .entry)) ⌝ }
-{
-    nodes.len() / 3
-}
 
 // A word as an index.
 pub fn wide(word: u32) -> usize

@@ -6,7 +6,7 @@ use Prim.Native.Nat.{ℕ, zero, suc, _+_, _-_, _*_}
 use native.Mathlib.Omega.{arith}
 use lib.Dec.{eqb}
 use lib.ListN.{getD}
-use Rattle.tables.specs.Limits.{noParent}
+use Rattle.wellformed.specs.Limits.{noParent}
 use Rattle.tables.specs.Board.{parentWord}
 use Rattle.tables.specs.Tree.{isBelow}
 use Rattle.tables.proofs.CodePool.{word-zero}

@@ -13,7 +13,7 @@ use Rattle.laws.specs.Search.{anyBelow}
 use Rattle.laws.proofs.FaultLaws.{below-clear}
 use Rattle.laws.proofs.SearchLaws.{true-false, any-at}
 use Rattle.laws.proofs.TestLaws.{both-true}
-use Rattle.tables.specs.Limits.{maxPropertyName}
+use Rattle.wellformed.specs.Limits.{maxPropertyName}
 use Rattle.tables.specs.Board.{range, rangeIs, propNode, keyOffset, keyLength, valueOffset, valueLength}
 use Rattle.tables.specs.Property.{isProperty}
 use Rattle.wellformed.specs.Check.{soundName, soundWords, soundProperty, sameProperty, propertyFault}

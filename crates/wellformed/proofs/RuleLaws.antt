@@ -14,7 +14,7 @@ use Rattle.laws.proofs.FaultLaws.{place-le}
 use Rattle.laws.proofs.FirstLaws.{Tells, Stage, stage-tells, end-tells}
 use Rattle.laws.proofs.OrElseLaws.{told-number}
 use Rattle.laws.proofs.RuleStageLaws.{NoneOf, stages-tell, tells-first, tells-none, none-tells, Clears, first-clears, else-clears, else-clear, told-place, else-place}
-use Rattle.tables.specs.Limits.{maxProperties}
+use Rattle.wellformed.specs.Limits.{maxProperties}
 use Rattle.tables.specs.Board.{Board, nodeCount, propCount}
 use Rattle.wellformed.specs.Order.{stage}
 use Rattle.wellformed.specs.Rules.{TableRule, WellFormed}

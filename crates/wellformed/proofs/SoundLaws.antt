@@ -12,7 +12,7 @@ use Rattle.laws.specs.Search.{anyBelow}
 use Rattle.laws.proofs.SearchLaws.{any-at, any-place, true-false}
 use Rattle.laws.proofs.SameLaws.{same-refl, same-equal}
 use Rattle.laws.proofs.TestLaws.{both-true}
-use Rattle.tables.specs.Limits.{maxNodes, maxProperties, maxPool, maxNodeName, maxPropertyName, noParent}
+use Rattle.wellformed.specs.Limits.{maxNodes, maxProperties, maxPool, maxNodeName, maxPropertyName, noParent}
 use Rattle.tables.specs.Board.{Board, Inside, nodeCount, parentWord, nameOffset, nameLength, propCount, propNode, propName, keyOffset, keyLength, valueOffset, valueLength}
 use Rattle.tables.specs.Tree.{isBelow, Ancestor}
 use Rattle.wellformed.specs.Rules.{TableRule}

@@ -5,7 +5,7 @@ use mathlib.Core.List.{List}
 use Prim.Native.Nat.{ℕ, suc, _≤_, _<_}
 use lib.ListN.{length}
 use Rattle.tables.specs.declared.Lookup.the-variants.{At}
-use Rattle.tables.specs.Limits.{maxPool, maxNodeName, maxPropertyName, noParent}
+use Rattle.wellformed.specs.Limits.{maxPool, maxNodeName, maxPropertyName, noParent}
 use Rattle.tables.specs.Board.{Board, Inside, nodeCount, parentWord, nameOffset, nameLength, propCount, propNode, keyOffset, keyLength, valueOffset, valueLength, propValue}
 use Rattle.tables.specs.Property.{Property, HasValue, lookup}
 use Rattle.wellformed.specs.Rules.{WellFormed}

@@ -8,7 +8,7 @@ use Rattle.laws.specs.declared.Fault.{Fault}
 use Rattle.laws.specs.Fault.{told, orElse, firstFault}
 use Rattle.laws.specs.Search.{anyBelow}
 use Rattle.laws.specs.Same.{sameList}
-use Rattle.tables.specs.Limits.{maxNodes, maxProperties, maxPool, maxNodeName, maxPropertyName, noParent}
+use Rattle.wellformed.specs.Limits.{maxNodes, maxProperties, maxPool, maxNodeName, maxPropertyName, noParent}
 use Rattle.tables.specs.Board.{Board, range, nodeCount, parentWord, nameOffset, nameLength, propCount, propNode, keyOffset, keyLength, valueOffset, valueLength}
 use Rattle.tables.specs.Tree.{isBelow}
 

@@ -1,5 +1,5 @@
 // Where the search for a property of a node starts: the lowest property noted at the node's number modulo 1,024.
-use tables::MAX_NODES;
+use crate::limits::MAX_NODES;
 ghost use mathlib.Core.Path.{_≡_};
 ghost use Prim.Native.Nat.{min};
 ghost use lib.ListN.{length, getD, set};

@@ -2,7 +2,7 @@
 use mathlib.Core.Path.{_≡_, refl}
 use Prim.Native.Nat.{_≤_, _-_, min}
 use native.Mathlib.Omega.{arith}
-use Rattle.tables.specs.Limits.{maxProperties}
+use Rattle.wellformed.specs.Limits.{maxProperties}
 use Rattle.tables.specs.Board.{propCount}
 use Rattle.keys.specs.Index.{keysBelow}
 use Rattle.keys.proofs.CodeLaws.{keys-more}
