@@ -94,6 +94,3 @@ module _ {b : Board} (typed : Typed b) (well : WellFormed b) (no17 : (p : ℕ) �
 
   pub names-none : (i : ℕ) → length (phandleList b) ≤ namedIndex b i → (c : ℕ) → Names b i c → ⊥
   names-none i le c n = let lt = names-inside i c n in omega arith
-
-  pub none-names : (i : ℕ) → ((c : ℕ) → Names b i c → ⊥) → length (phandleList b) ≤ namedIndex b i
-  none-names i none = ⊎-elim (λ lt. absurd (none _ (index-names i lt))) (λ le. le) (lt-or-le (namedIndex b i) (length (phandleList b)))

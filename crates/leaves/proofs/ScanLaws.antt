@@ -1,12 +1,10 @@
 -- What the scan of the tree answers after each pass, and where it is told of the board's cpu records. Assumes nothing.
-use mathlib.Core.Path.{_≡_, refl, sym, ap, subst, _∙_}
+use mathlib.Core.Path.{_≡_, refl, sym, ap, ap₂, subst, _∙_}
 use mathlib.Core.Bool.{Bool, true, false, cond}
-use mathlib.Core.Logic.{⊎-elim}
 use mathlib.Core.List.{List, map}
-use Prim.Native.Nat.{ℕ, zero, suc, _≤_, _<_, min}
+use Prim.Native.Nat.{ℕ, zero, suc, _*_, _≤_, min}
 use native.Mathlib.Omega.{arith}
 use lib.ListN.{length, getD, take}
-use lib.Seq.{take-all, take-length, length-take-le}
 use borrow.Author.Tests.{eq-eqb, ne-eqb}
 use Rattle.laws.specs.declared.Fault.{Fault}
 use Rattle.laws.specs.Fault.{clear, told, orElse, firstFault}
@@ -15,12 +13,13 @@ use Rattle.laws.proofs.FaultLaws.{or-first, or-second, below-clear}
 use Rattle.laws.proofs.OrElseLaws.{or-clear}
 use Rattle.laws.proofs.RuleStageLaws.{first-clears}
 use Rattle.laws.proofs.GatherLaws.{first-same}
-use Rattle.laws.proofs.SearchLaws.{lt-or-le}
+use Rattle.laws.proofs.CutLaws.{cut-same}
 use Rattle.tables.specs.Board.{nodeCount}
-use Rattle.cpus.specs.declared.Cell.{Cell}
+use Rattle.wellformed.specs.Limits.{maxNodes}
 use Rattle.cpus.specs.Rules.{maxCpus}
 use Rattle.leaves.specs.declared.TreeScan.{TreeScan}
-use Rattle.leaves.specs.Scan.{Tree, tree, cpuOf, namedBelow, treeFault, leavesFault, leafList, scanned, treeScan, passed, leavesOver, namedOver}
+use Rattle.leaves.specs.Check.{keyCells}
+use Rattle.leaves.specs.Scan.{Tree, tree, lentTree, cpuOf, namedBelow, treeFault, leavesFault, leafList, scanned, treeScan, passed, leavesOver, namedOver}
 use Rattle.leaves.specs.Pass.{Marked, Left, leafScan, unmarkedFault}
 use Rattle.leaves.proofs.LeafCount.{leaves-le, clear-apart}
 use Rattle.leaves.proofs.GatherLaws.{marked-is}
@@ -94,31 +93,16 @@ module _ (t : Tree) (records : List ℕ) (z : leavesFault t records .number ≡ 
   pub named-listed : (before : List ℕ) → namedOver t before ≡ over (map (cpuOf t) (leafList t)) before
   named-listed before = rw first-clear
 
--- the first phandles, as many as there may be cpu records
-module _ (phandles : List ℕ) {n : ℕ} (e : n ≡ min (length phandles) maxCpus) where
-  pub known-size : n ≡ length (take n phandles)
-  known-size = sym (length-take-le n phandles (omega (arith, e)))
-
-  pub known-few : length (take n phandles) ≤ maxCpus
-  known-few = omega (arith, e, known-size)
-
-  known-same : take n phandles ≡ take maxCpus phandles
-  known-same =
-      ⊎-elim
-      (λ lt. ap (λ (k : ℕ). take k phandles) (full lt))
-      (λ le. ap (λ (k : ℕ). take k phandles) (cut le) ∙ take-length phandles ∙ sym (take-all maxCpus phandles le))
-      (lt-or-le maxCpus (length phandles))
-    where
-      cut : length phandles ≤ maxCpus → n ≡ length phandles
-      cut le = omega (arith, e)
-
-      full : maxCpus < length phandles → n ≡ maxCpus
-      full lt = omega (arith, e)
-
-  -- what the pass over the records answers and leaves, of the tree with these phandles
-  pub known-pass :
-      (nodes : List ℕ) (cells : ℕ → Cell) (pool : List ℕ) (m : ℕ) {s : TreeScan} {leaves₀ named₀ marks leaves named : List ℕ} →
-      (s ≡ leafScan (tree nodes cells pool m (take n phandles))) × Left (tree nodes cells pool m (take n phandles)) leaves₀ named₀ marks leaves named →
-      (s ≡ leafScan (tree nodes cells pool m (take maxCpus phandles))) × Left (tree nodes cells pool m (take maxCpus phandles)) leaves₀ named₀ marks leaves named
-  known-pass nodes cells pool m {s} {leaves₀} {named₀} {marks} {leaves} {named} h =
-      subst (λ (l : List ℕ). (s ≡ leafScan (tree nodes cells pool m l)) × Left (tree nodes cells pool m l) leaves₀ named₀ marks leaves named) known-same h
+-- what the pass over the records answers and leaves, of the tree with the first m words and n phandles of lent slices
+pub cut-pass :
+    (nodes props pool keys : List ℕ) (root : ℕ) (phandles : List ℕ) {m n : ℕ} {s : TreeScan} {leaves₀ named₀ marks leaves named : List ℕ} →
+    m ≡ min (length nodes) (3 * maxNodes) →
+    n ≡ min (length phandles) maxCpus →
+    let t = tree (take m nodes) (keyCells props pool keys) pool root (take n phandles) in
+    (s ≡ leafScan t) × Left t leaves₀ named₀ marks leaves named →
+    let u = lentTree nodes props pool keys root phandles in
+    (s ≡ leafScan u) × Left u leaves₀ named₀ marks leaves named
+cut-pass nodes props pool keys root phandles {m} {n} {s} {leaves₀} {named₀} {marks} {leaves} {named} e f h =
+    subst (λ (t : Tree). (s ≡ leafScan t) × Left t leaves₀ named₀ marks leaves named)
+    (ap₂ (λ (x y : List ℕ). tree x (keyCells props pool keys) pool root y) (cut-same nodes (3 * maxNodes) e) (cut-same phandles maxCpus f))
+    h

@@ -1,20 +1,22 @@
 -- The leaves of the map: rules 18 to 26 over all records.
 use mathlib.Core.Bool.{Bool, false, cond}
 use mathlib.Core.List.{List, map}
-use Prim.Native.Nat.{ℕ}
+use Prim.Native.Nat.{ℕ, _*_}
 use lib.Dec.{eqb}
-use lib.ListN.{length}
+use lib.ListN.{length, take}
 use Rattle.laws.specs.declared.Fault.{Fault}
 use Rattle.laws.specs.Fault.{orElse, orNumber, firstFault}
 use Rattle.laws.specs.Search.{anyBelow, listBelow}
 use Rattle.laws.specs.Listed.{over, toldOf}
 use Rattle.tables.specs.Board.{Board, nodeCount}
+use Rattle.wellformed.specs.Limits.{maxNodes}
 use Rattle.cpus.specs.declared.Cell.{Cell}
+use Rattle.cpus.specs.Rules.{maxCpus}
 use Rattle.cpus.specs.Check.{phandleList}
 use Rattle.leaves.specs.declared.RecordCheck.{RecordCheck}
 use Rattle.leaves.specs.declared.TreeScan.{TreeScan}
 use Rattle.topology.specs.Find.{mapOf}
-use Rattle.leaves.specs.Check.{recordCheck, cpuCells}
+use Rattle.leaves.specs.Check.{recordCheck, cpuCells, keyCells}
 
 -- The tables, the cells of the records' `cpu`, the map's record and the cpu records' phandles.
 pub record Tree : Type 0 where
@@ -29,6 +31,10 @@ tree nodes cells pool root phandles = record { nodes = nodes; cells = cells; poo
 
 abbrev pub check : Tree → ℕ → RecordCheck
 check t i = recordCheck (t .nodes) (t .cells) (t .pool) (t .root) (t .phandles) i
+
+-- the tree of lent slices: their first 1,024 node records and 256 phandles, and the cells of `cpu` by a table of keys
+abbrev pub lentTree : (nodes props pool keys : List ℕ) → ℕ → List ℕ → Tree
+lentTree nodes props pool keys root phandles = tree (take (3 * maxNodes) nodes) (keyCells props pool keys) pool root (take maxCpus phandles)
 
 -- whether record i is a leaf that names a cpu, and which
 abbrev pub isLeaf : Tree → ℕ → Bool

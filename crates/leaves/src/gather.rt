@@ -8,6 +8,8 @@ use laws::REPEATED_LEAF_CPU;
 ghost use mathlib.Core.Path.{_≡_};
 ghost use Prim.Native.Nat.{_≤_};
 ghost use lib.ListN.{length, replicate};
+ghost use Rattle.tables.specs.Board.{nodeCount};
+ghost use Rattle.wellformed.specs.Limits.{maxNodes};
 ghost use Rattle.cpus.specs.Rules.{maxCpus};
 ghost use Rattle.leaves.specs.Check.{keyCells};
 ghost use Rattle.leaves.specs.Scan.{tree};
@@ -59,10 +61,11 @@ pub fn gather(
     map: usize,
     phandles: &[u64],
     marks: &mut [u8],
-    leaves: &mut [usize; MAX_CPUS],
-    named: &mut [usize; MAX_CPUS],
+    leaves: &mut [u16; MAX_CPUS],
+    named: &mut [u16; MAX_CPUS],
 ) -> TreeScan
-    requires { ⌜ (length (now phandles) ≤ maxCpus) × (now marks ≡ replicate maxCpus 0) ⌝ }
+    requires few { ⌜ (length (now phandles) ≤ maxCpus) × (nodeCount (now nodes) ≤ maxNodes) ⌝ }
+    requires marks { ⌜ now marks ≡ replicate maxCpus 0 ⌝ }
     ensures answer { λ r.
         let t = tree (now (nodes .entry)) (keyCells (now (props .entry)) (now (pool .entry)) (now (keys .entry))) (now (pool .entry)) map (now (phandles .entry)) in
         ⌜ r ≡ leafScan t ⌝ }
@@ -83,9 +86,9 @@ pub fn gather(
             i += 1;
             continue;
         }
-        leaves[count] = i;
+        leaves[count] = i as u16;
         let cpu = check.cpu;
-        named[count] = cpu;
+        named[count] = cpu as u16;
         marks[cpu] = 1;
         count += 1;
         i += 1;

@@ -7,18 +7,17 @@ use cpus::MAX_CPUS;
 use keys::KEY_WORDS;
 use laws::Fault;
 use laws::UNMAPPED_CPU;
+use wellformed::MAX_NODES;
 ghost use mathlib.Core.Path.{_≡_};
 ghost use Prim.Native.Nat.{min};
-ghost use lib.ListN.{length, take};
+ghost use lib.ListN.{length};
 ghost use Rattle.laws.specs.Fault.{firstFault};
 ghost use Rattle.laws.specs.Listed.{toldOf};
-ghost use Rattle.cpus.specs.Rules.{maxCpus};
-ghost use Rattle.leaves.specs.Check.{keyCells};
-ghost use Rattle.leaves.specs.Scan.{tree, treeScan, leavesOver, namedOver};
+ghost use Rattle.leaves.specs.Scan.{lentTree, treeScan, leavesOver, namedOver};
 ghost use Rattle.leaves.specs.Pass.{unmarkedFault};
 
 // The first of a list of cpu records that breaks rule 26: its index in the list is not marked.
-fn first_unmapped(records: &[usize], marks: &[u8]) -> Fault
+fn first_unmapped(records: &[u16], marks: &[u8]) -> Fault
     ensures { λ r.
         let list = now (records .entry) in
         ⌜ r ≡ toldOf list (firstFault (unmarkedFault (now (marks .entry))) (length list)) ⌝ }
@@ -28,7 +27,7 @@ fn first_unmapped(records: &[usize], marks: &[u8]) -> Fault
         if !is_marked(marks, k) {
             return Fault {
                 number: UNMAPPED_CPU,
-                place: records[k],
+                place: records[k] as usize,
             };
         }
         k += 1;
@@ -39,42 +38,44 @@ fn first_unmapped(records: &[usize], marks: &[u8]) -> Fault
     }
 }
 
-// A number, or 256 where it is larger.
-fn at_most_cpus(n: usize) -> usize
-    ensures { λ r. ⌜ r ≡ min n maxCpus ⌝ }
+// The smaller of two numbers.
+fn at_most(n: usize, most: usize) -> usize
+    ensures { λ r. ⌜ r ≡ min n most ⌝ }
 {
-    if MAX_CPUS < n {
-        return MAX_CPUS;
+    if most < n {
+        return most;
     }
     n
 }
 
-// Checks rules 18 to 26, and lists the leaves, and for each the index of the cpu record that it names, by the first 256 phandles.
+// Checks rules 18 to 26, and lists the leaves, and for each the index of the cpu record that it names. It looks at the first 1,024 records and
+// at the first 256 phandles.
 pub fn read_tree(
     nodes: &[u32],
     props: &[u32],
     pool: &[u8],
     keys: &[u16; KEY_WORDS],
     map: usize,
-    cpu_records: &[usize],
+    cpu_records: &[u16],
     phandles: &[u64],
-    leaves: &mut [usize; MAX_CPUS],
-    named: &mut [usize; MAX_CPUS],
+    leaves: &mut [u16; MAX_CPUS],
+    named: &mut [u16; MAX_CPUS],
 ) -> TreeScan
     ensures answer { λ r.
-        let t = tree (now (nodes .entry)) (keyCells (now (props .entry)) (now (pool .entry)) (now (keys .entry))) (now (pool .entry)) map (take maxCpus (now (phandles .entry))) in
+        let t = lentTree (now (nodes .entry)) (now (props .entry)) (now (pool .entry)) (now (keys .entry)) map (now (phandles .entry)) in
         ⌜ r ≡ treeScan t (now («cpu_records» .entry)) ⌝ }
     ensures leaves { λ _.
-        let t = tree (now (nodes .entry)) (keyCells (now (props .entry)) (now (pool .entry)) (now (keys .entry))) (now (pool .entry)) map (take maxCpus (now (phandles .entry))) in
+        let t = lentTree (now (nodes .entry)) (now (props .entry)) (now (pool .entry)) (now (keys .entry)) map (now (phandles .entry)) in
         ⌜ now (leaves .exit) ≡ leavesOver t (now (leaves .entry)) ⌝ }
     ensures named { λ _.
-        let t = tree (now (nodes .entry)) (keyCells (now (props .entry)) (now (pool .entry)) (now (keys .entry))) (now (pool .entry)) map (take maxCpus (now (phandles .entry))) in
+        let t = lentTree (now (nodes .entry)) (now (props .entry)) (now (pool .entry)) (now (keys .entry)) map (now (phandles .entry)) in
         ⌜ now (named .exit) ≡ namedOver t (now (named .entry)) ⌝ }
 {
-    let known = at_most_cpus(phandles.len());
+    let words = at_most(nodes.len(), 3 * MAX_NODES);
+    let known = at_most(phandles.len(), MAX_CPUS);
     let mut marks = [0u8; MAX_CPUS];
     let scan = gather(
-        nodes,
+        &nodes[..words],
         props,
         pool,
         keys,

@@ -78,6 +78,3 @@ other-means name = (
 -- a name gives one kind and one number
 pub named-unique : {name : List ℕ} {k j : Kind} {n m : ℕ} → Named name k n → Named name j m → (k ≡ j) × (n ≡ m)
 named-unique {name} {k} {j} {n} {m} p q = answered-same k j n m (sym (named-name p) ∙ named-name q)
-
-pub name-cases : (name : List ℕ) → (nameOf name ≡ Other) ⊎ ((kind : Kind) × (n : ℕ) × (nameOf name ≡ answered kind n))
-name-cases name = ⊎-elim inl (λ t. inr (t .0, t .1, t .2)) (reads name)

@@ -36,14 +36,6 @@ under (Allowed.clusterCore s) = s
 under (Allowed.coreThread s) = s
 
 module _ (b : Board) (well : WellFormed b) (m : ℕ) (the-map : Map b m) (sound : SoundCpus b) (kept : (n p : ℕ) → MapRule b n p → ⊥) where
-  -- a record below the map has a kind
-  pub some-kind : (i : ℕ) → InMap b i → (kind : Kind) × Is b kind i
-  some-kind i h =
-      ⊎-elim
-      (λ t. (t .0, (t .1, t .3)))
-      (λ t. absurd (kept 19 i (MapRule.noTopologyName i h (t .1))))
-      (topology-cases b well i (ancestor-inside (h .below)))
-
   -- the parent of a thread is a core, of a core a cluster, of a socket the map, of a cluster the map, a socket or a cluster
   pub parent-kind : (i p : ℕ) (kind : Kind) → InMap b i → Child (b .nodes) p i → Is b kind i → Under b p kind
   parent-kind i p kind h c s =

@@ -112,7 +112,3 @@ module _ {nodes : List ℕ} where
 
         next : Child nodes (parentWord nodes (suc p)) (suc p)
         next = has-parent p (ancestor-inside below)
-
-    -- p has a child exactly when the next record is one (`next-child` is the other way)
-    pub child-next : {p i : ℕ} → Child nodes p i → (suc p < nodeCount nodes) × (parentWord nodes (suc p) ≡ p)
-    child-next c = let d = first-child c in (d .inside, d .word)

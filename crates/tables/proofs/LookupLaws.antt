@@ -30,9 +30,6 @@ module _ (pool : List ℕ) (offset len : ℕ) (bytes : List ℕ) where
   unfolding rangeIs
   true-range-is h e = rw (le-leb (offset + len) (length pool) h, e) (same-refl bytes)
 
-  pub range-is-false : rangeIs pool offset len bytes ≡ false → Inside pool offset len → range pool offset len ≡ bytes → ⊥
-  range-is-false f h e = true-false (true-range-is h e) f
-
 -- record k is the lowest property of record i with the name `key`
 pub record LowestProperty (b : Board) (i : ℕ) (key : List ℕ) (k : ℕ) : Type 0 where
   pub property : Property b i key k

@@ -27,10 +27,6 @@ ancestor-test nodes a i = below-test a i
 pub map-unique : (b : Board) (m k : ℕ) → Map b m → Map b k → m ≡ k
 map-unique b m k s t = le-antisymm (s .lowest k (t .child) (t .name)) (t .lowest m (s .child) (s .name))
 
--- the map is a record, and not record 0
-pub map-inside : (b : Board) (m : ℕ) → Map b m → m < nodeCount (b .nodes)
-map-inside b m s = s .child .inside
-
 module _ (b : Board) (m : ℕ) (map : Map b m) where
   -- below the map
   pub in-map-test : (i : ℕ) → Decides (isBelow (b .nodes) i m) (InMap b i)
@@ -51,13 +47,6 @@ module _ (b : Board) (m : ℕ) (map : Map b m) where
 
   pub outside-not-below : (i : ℕ) → Outside b i → InMap b i → ⊥
   outside-not-below i t s = t .not-below (rw (map-unique b m (t .root) map (t .is-map)) at (in-map-below i s))
-
-  pub outside-test : (i : ℕ) → Outside b i → isBelow (b .nodes) i m ≡ false
-  outside-test i t = decides-not (in-map-test i) .1 (outside-not-below i t)
-
-  -- what is below the map comes after it, and record 0 is neither
-  pub map-positive : 0 < m
-  map-positive = map .child .earlier
 
   pub in-map-later : (i : ℕ) → InMap b i → m < i
   in-map-later i t = ancestor-earlier (in-map-below i t)

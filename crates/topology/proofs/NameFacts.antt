@@ -103,10 +103,6 @@ module _ (b : Board) (well : WellFormed b) where
   unfolding topologyName
   topology-name i lt = rw (lt-ltb _ _ lt, le-leb _ _ (wf-name well i lt .inside))
 
-  pub topology-outside : (i : ℕ) → nodeCount (b .nodes) ≤ i → name i ≡ Other
-  unfolding topologyName
-  topology-outside i le = rw (le-ltb _ _ le)
-
   pub topology-is : (i : ℕ) (kind : Kind) (n : ℕ) → i < nodeCount (b .nodes) → (name i ≡ answered kind n) ↔ Named (nodeName b i) kind n
   topology-is i kind n lt =
       let t = name-means (nodeName b i) kind n in

@@ -158,9 +158,3 @@ module _
 
           named : (kind : Kind) × (n : ℕ) × (name i ≡ answered kind n) × Named (nodeName b i) kind n → Least Rule 19 23 fault
           named t = rw (t .2) (faults (t .0) (t .1) (t .3))
-
-      pub record-sound : (v : ℕ) → fault ≡ v → (v ≡ 0 → ⊥) → MapRule b v i × (19 ≤ v) × (v ≤ 23)
-      record-sound v e ne = rw e at (record-told .sound (λ z. ne (sym e ∙ z)))
-
-      pub record-least : (n : ℕ) → MapRule b n i → 19 ≤ n → n ≤ 23 → (fault ≡ 0 → ⊥) × (fault ≤ n)
-      record-least = record-told .least

@@ -178,10 +178,6 @@ module _ (b : Board) where
   staged : (m q : ℕ) → TableRule b m q → 1 ≤ stage m
   staged m q r = rule-staged m q r .0
 
-  -- what is told is the first broken rule
-  pub table-first : (tableFault b .number ≡ 0 → ⊥) → First stage (TableRule b) (tableFault b .number) (tableFault b .place)
-  table-first = tells-first stage (TableRule b) staged only-table
-
   -- nothing is told exactly where the tables are well-formed
   pub table-clear : WellFormed b → tableFault b ≡ clear
   table-clear = none-tells stage (TableRule b) staged only-table

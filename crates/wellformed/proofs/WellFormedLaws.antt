@@ -27,24 +27,15 @@ module _ {b : Board} (wf : WellFormed b) where
   kept-second (Verdicts.second p s) = kept s
 
   -- the sizes of the tables
-  pub wf-width : (b .width ≡ 32) ⊎ (b .width ≡ 64)
-  wf-width = kept (width-told b)
-
   pub wf-nodes : NodeWords b
   wf-nodes = kept (nodes-told b)
 
   pub wf-props : PropWords b
   wf-props = kept (props-told b)
 
-  pub wf-pool : length (b .pool) ≤ maxPool
-  wf-pool = kept (pool-told b)
-
   -- node records
   pub wf-name : (i : ℕ) → i < nodeCount (b .nodes) → Name (b .pool) maxNodeName (nameOffset (b .nodes) i) (nameLength (b .nodes) i)
   wf-name i lt = kept-first (node-told b i lt)
-
-  pub wf-root : parentWord (b .nodes) 0 ≡ noParent
-  wf-root = kept-second (node-told b 0 (wf-nodes .0))
 
   pub wf-depth : DepthFirst (b .nodes)
   wf-depth i lt = kept-second (node-told b (suc i) lt)
@@ -56,9 +47,6 @@ module _ {b : Board} (wf : WellFormed b) where
   pub wf-prop-node : (k : ℕ) → k < propCount (b .props) → propNode (b .props) k < nodeCount (b .nodes)
   wf-prop-node k lt = wf-property k lt .node
 
-  pub wf-key : (k : ℕ) → k < propCount (b .props) → Name (b .pool) maxPropertyName (keyOffset (b .props) k) (keyLength (b .props) k)
-  wf-key k lt = wf-property k lt .name
-
   pub wf-value : (k : ℕ) → k < propCount (b .props) → Inside (b .pool) (valueOffset (b .props) k) (valueLength (b .props) k)
   wf-value k lt = wf-property k lt .value
 
@@ -69,10 +57,3 @@ module _ {b : Board} (wf : WellFormed b) where
 
     pub wf-value-unique : {v w : List ℕ} → HasValue b i key v → HasValue b i key w → v ≡ w
     wf-value-unique = value-unique b i key (wf 8)
-
-    pub wf-lookup : {k : ℕ} → Property b i key k → lookup (b .props) (b .pool) i key ≡ At k
-    wf-lookup = lookup-of b i key (wf 8)
-
-    -- a property's value is one that the record has
-    pub wf-has-value : {k : ℕ} → Property b i key k → HasValue b i key (propValue b k)
-    wf-has-value {k} h = record { record-number = k; property = h; range = wf-value k (h .inside); bytes = refl }

@@ -44,12 +44,12 @@ room : (c : tie.Else2 Inv-loop μ-loop) → c .before .before .before .before .b
 room c =
     let test = c .before .before in
     let at = test .before .before .before .before .before in
-    gather-room _ _ _ (at .loop .inv .1) (fault (test .before)) (test .if1 .left) (entry at .pre .0) (leaf c)
+    gather-room _ _ _ (at .loop .inv .1) (fault (test .before)) (test .if1 .left) (entry at .pre .0 .0) (leaf c)
 
 cpu-room : (c : tie.Else2 Inv-loop μ-loop) → c .before .before .before .before .before .record-check .result .cpu < 256
 cpu-room c =
     let call = c .before .before .before .before .before in
-    omega (arith, ap (λ (r : RecordCheck). r .cpu) (call .record-check .ensures), leaf-is _ _ (leaf c) .inside, entry (call .before .before) .pre .0)
+    omega (arith, ap (λ (r : RecordCheck). r .cpu) (call .record-check .ensures), leaf-is _ _ (leaf c) .inside, entry (call .before .before) .pre .0 .0)
 
 -- the marks keep their number
 same-size : (s : tie.Start Inv-loop μ-loop) {n : ℕ} {marks : List ℕ} → Marked (treeIn s) n marks → length marks ≡ length (s .args .marks .now)
@@ -94,11 +94,19 @@ loop-again c =
     let other = sym (ap (λ (r : RecordCheck). r .leaf) (call .record-check .ensures)) ∙ not-true (call .record-check .result .leaf) (c .if2 .taken) in
     (omega arith, gather-keep _ _ _ (call .before .before .loop .inv .1) (fault (test .before)) (test .if1 .left) other)
 
+cast-leaves : tie.Need-cast-leaves Inv-loop μ-loop
+cast-leaves c =
+    let at = c .before .before .before .before .before .before .before in
+    omega (arith, c .before .before .before .before .before .before .loop-test .taken, entry at .pre .0 .1)
+
 mul-leaves : tie.Need-mul-leaves Inv-loop μ-loop
 mul-leaves c = omega (arith, room c)
 
 element-write-leaves : tie.Need-element-write-leaves Inv-loop μ-loop
 element-write-leaves c = room c
+
+cast-named : tie.Need-cast-named Inv-loop μ-loop
+cast-named c = omega (arith, cpu-room c)
 
 mul-named : tie.Need-mul-named Inv-loop μ-loop
 mul-named c = omega (arith, room c)
@@ -124,7 +132,7 @@ loop-again-2 c =
     let call = test .before .before .before in
     let at = call .before .before in (
       omega (arith, call .before .loop-test .taken),
-      gather-push _ _ _ (at .loop .inv .1) (fault (test .before)) (test .if1 .left) (entry at .pre .0) (leaf c) (ap (λ (r : RecordCheck). r .cpu) (call .record-check .ensures)) (cpu-room c),
+      gather-push _ _ _ (at .loop .inv .1) (fault (test .before)) (test .if1 .left) (entry at .pre .0 .0) (leaf c) (ap (λ (r : RecordCheck). r .cpu) (call .record-check .ensures)) (cpu-room c),
     )
 
 same-length-2 : tie.Need-same-length-2 Inv-loop μ-loop
@@ -150,8 +158,10 @@ gather-spec =
     add-i
     loop-less
     loop-again
+    cast-leaves
     mul-leaves
     element-write-leaves
+    cast-named
     mul-named
     element-write-named
     slice-write-marks

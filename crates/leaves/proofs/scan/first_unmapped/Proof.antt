@@ -38,6 +38,9 @@ mul-t7 c = search needs
 shared-slice-read-t9 : tie.Need-shared-slice-read-t9 Inv-loop μ-loop
 shared-slice-read-t9 c = search needs
 
+cast-t10 : tie.Need-cast-t10 Inv-loop μ-loop
+cast-t10 c = omega (arith, c .shared-slice-known3 .given (c .before .before .before .before .loop .k))
+
 returns : tie.Need-returns Inv-loop μ-loop
 returns c =
     let call = c .before .before in
@@ -73,6 +76,7 @@ first-unmapped-spec =
     is-marked-requires
     mul-t7
     shared-slice-read-t9
+    cast-t10
     returns
     add-k
     loop-less

@@ -1,44 +1,62 @@
 -- `read_tree` meets its contract: the pass over the records, the pass over the cpu records. Assumes nothing.
 use mathlib.Core.Path.{_≡_, refl, _∙_}
 use mathlib.Core.List.{List}
-use Prim.Native.Nat.{ℕ, min}
+use Prim.Native.Nat.{ℕ, _*_, min}
+use native.Mathlib.Omega.{arith}
 use lib.ListN.{length}
 use borrow.Author.Needs.{needs}
+use Rattle.laws.proofs.CutLaws.{cut-size, cut-few}
+use Rattle.wellformed.specs.Limits.{maxNodes}
 use Rattle.cpus.specs.Rules.{maxCpus}
-use Rattle.leaves.proofs.ScanLaws.{known-size, known-few, known-pass, first-told, last-is, last-told, last-clear}
+use Rattle.leaves.proofs.ScanLaws.{cut-pass, first-told, last-is, last-told, last-clear}
 use Rattle.leaves.proofs.scan.read_tree.Statement.{statement}
 use Rattle.leaves.proofs.scan.read_tree.Tie as tie
 
--- what the function takes, before the pass over the records
-abbrev start : tie.After-at-most-cpus → tie.Start
-start c = c .before .before .before .before .before .before
+-- what the function takes, after the two lengths are cut
+abbrev start : tie.After-at-most2 → tie.Start
+start c = c .before .before .before .before .before .before .before
+
+abbrev cut : tie.After-gather → tie.After-at-most2
+cut c = c .before .before .before .before .before .before
 
 -- the list of cpu records
 abbrev records : tie.After-gather → List ℕ
-records c = start (c .before .before .before .before .before) .args .cpu-records .now
+records c = start (cut c) .args .cpu-records .now
 
--- the phandles that are known
-known : (c : tie.After-at-most-cpus) → c .at-most-cpus .result ≡ min (length (start c .args .phandles .now)) maxCpus
-known c = c .at-most-cpus .ensures
+-- the lengths
+words : (c : tie.After-at-most2) → c .before .at-most .result ≡ min (length (start c .args .nodes .now)) (3 * maxNodes)
+words c = c .before .at-most .ensures
 
-at-most-cpus-requires : tie.Need-at-most-cpus-requires
-at-most-cpus-requires c κs = search needs
+known : (c : tie.After-at-most2) → c .at-most2 .result ≡ min (length (start c .args .phandles .now)) maxCpus
+known c = c .at-most2 .ensures
+
+mul-at-most : tie.Need-mul-at-most
+mul-at-most c = search needs
+
+at-most-requires : tie.Need-at-most-requires
+at-most-requires c κs = search needs
+
+at-most-requires-2 : tie.Need-at-most-requires-2
+at-most-requires-2 c κs = search needs
 
 slice-aggregate-gather : tie.Need-slice-aggregate-gather
-slice-aggregate-gather c = known-size (start (c .before) .args .phandles .now) (known (c .before))
+slice-aggregate-gather c = cut-size (start (c .before) .args .nodes .now) (3 * maxNodes) (words (c .before))
 
 slice-aggregate-gather-2 : tie.Need-slice-aggregate-gather-2
-slice-aggregate-gather-2 c = search needs
+slice-aggregate-gather-2 c = cut-size (start (c .before .before) .args .phandles .now) maxCpus (known (c .before .before))
+
+slice-aggregate-gather-3 : tie.Need-slice-aggregate-gather-3
+slice-aggregate-gather-3 c = search needs
 
 gather-requires : tie.Need-gather-requires
 gather-requires c κs =
-    let call = c .before .before .before .before in
-    (known-few (start call .args .phandles .now) (known call), refl)
+    let at = c .before .before .before .before .before in
+    ((cut-few (start at .args .phandles .now) maxCpus (known at), omega (arith, cut-few (start at .args .nodes .now) (3 * maxNodes) (words at))), refl)
 
 returns : tie.Need-returns
 returns c =
     let call = c .before .before .before in
-    let pass = known-pass _ (known (call .before .before .before .before .before)) _ _ _ _ (call .gather .ensures) in
+    let pass = cut-pass _ _ _ _ _ _ (words (cut call)) (known (cut call)) (call .gather .ensures) in
     (first-told _ _ (pass .0) (c .if1 .taken), (pass .1 .leaves-left, pass .1 .named-left))
 
 slice-aggregate-first-unmapped : tie.Need-slice-aggregate-first-unmapped
@@ -55,7 +73,7 @@ returns-2 c =
     let last = c .before .before .before in
     let test = last .before .before in
     let call = test .before .before .before in
-    let pass = known-pass _ (known (call .before .before .before .before .before)) _ _ _ _ (call .gather .ensures) in
+    let pass = cut-pass _ _ _ _ _ _ (words (cut call)) (known (cut call)) (call .gather .ensures) in
     let is = last-is _ (records call) (pass .0) (test .if1 .left) (pass .1 .marks-left) (last .first-unmapped .ensures) in
     (c .refuse .ensures ∙ last-told _ (records call) (pass .0) (test .if1 .left) is (c .before .if2 .taken), (pass .1 .leaves-left, pass .1 .named-left))
 
@@ -64,7 +82,7 @@ returns-3 c =
     let last = c .before .before in
     let test = last .before .before in
     let call = test .before .before .before in
-    let pass = known-pass _ (known (call .before .before .before .before .before)) _ _ _ _ (call .gather .ensures) in
+    let pass = cut-pass _ _ _ _ _ _ (words (cut call)) (known (cut call)) (call .gather .ensures) in
     let is = last-is _ (records call) (pass .0) (test .if1 .left) (pass .1 .marks-left) (last .first-unmapped .ensures) in
     (last-clear _ (records call) (pass .0) (test .if1 .left) is (c .if2 .left), (pass .1 .leaves-left, pass .1 .named-left))
 
@@ -72,9 +90,12 @@ pub read-tree-spec : {M : Type 1} → statement M
 read-tree-spec =
     tie.close
     (tie.spec
-    at-most-cpus-requires
+    mul-at-most
+    at-most-requires
+    at-most-requires-2
     slice-aggregate-gather
     slice-aggregate-gather-2
+    slice-aggregate-gather-3
     gather-requires
     returns
     slice-aggregate-first-unmapped
