@@ -4,6 +4,7 @@ use mathlib.Core.List.{List, map}
 use Prim.Native.Nat.{ℕ, zero, suc, _≤_}
 use native.Mathlib.Omega.{arith}
 use lib.ListN.{length, take, replicate, length-map, length-replicate}
+use lib.Seq.{take-all}
 use borrow.Author.Tests.{eq-eqb}
 use Rattle.laws.specs.declared.Fault.{Fault}
 use Rattle.laws.specs.Fault.{told}
@@ -137,6 +138,11 @@ module _ (c : tie.After-whole2) where
   listed-is : take count array ≡ cpuList (b4 (c .before .before .before))
   listed-is = front-is _ _ laid (count-is (c .before .before)) room
 
+  -- none is cut off where there is room for 256
+  all-listed : (n : ℕ) → maxCpus ≤ n → take n (take count array) ≡ cpuList (b4 (c .before .before .before))
+  all-listed n le =
+      take-all n (take count array) (omega (arith, listed-size, count-is (c .before .before), listed-few (c .before .before))) ∙ listed-is
+
 -- rules 11 to 13
 module _ (c : tie.After-read-numbers) where
   abbrev indexed : tie.After-index-keys
@@ -151,11 +157,17 @@ module _ (c : tie.After-read-numbers) where
   abbrev kept-9 : tie.Else2
   kept-9 = at-count c .before .before .before .before
 
-  mpidr-fault : c .read-numbers .result ≡ cpuFault (b5 c)
-  mpidr-fault = c .read-numbers .ensures .0 ∙ numbers-stage (b5 c) well-5 (indexed .index-keys .ensures) (listed-is wholes) (ap Mpidrs (cells-are kept-9 .1)) 13
+  abbrev mpidrs : List ℕ
+  mpidrs = start (at-count c .before) .args .mpidrs .now
 
-  mpidrs-laid : cpuFault (b5 c) .number ≡ 0 → c .read-numbers .last .1 .1 .1 .1 .1 .0 ≡ over (mpidrList (b5 c)) (start (at-count c .before) .args .mpidrs .now)
-  mpidrs-laid z = c .read-numbers .ensures .1 ∙ numbers-found (b5 c) well-5 (indexed .index-keys .ensures) (listed-is wholes) (ap Mpidrs (cells-are kept-9 .1)) 13 _ z
+  cpus-listed : take (length mpidrs) (take (count wholes) (array wholes)) ≡ cpuList (b5 c)
+  cpus-listed = all-listed wholes (length mpidrs) (omega (arith, c .before .read-numbers-arg .given .0 .1))
+
+  mpidr-fault : c .read-numbers .result ≡ cpuFault (b5 c)
+  mpidr-fault = c .read-numbers .ensures .0 ∙ numbers-stage (b5 c) well-5 (indexed .index-keys .ensures) cpus-listed (ap Mpidrs (cells-are kept-9 .1)) 13
+
+  mpidrs-laid : cpuFault (b5 c) .number ≡ 0 → c .read-numbers .last .1 .1 .1 .1 .1 .0 ≡ over (mpidrList (b5 c)) mpidrs
+  mpidrs-laid z = c .read-numbers .ensures .1 ∙ numbers-found (b5 c) well-5 (indexed .index-keys .ensures) cpus-listed (ap Mpidrs (cells-are kept-9 .1)) 13 _ z
 
 clear-mpidrs : (c : tie.Else4) → cpuFault (b5 (c .before .before)) .number ≡ 0
 clear-mpidrs c = ap (λ (f : Fault). f .number) (sym (mpidr-fault (c .before .before))) ∙ c .if4 .left
@@ -179,11 +191,11 @@ module _ (c : tie.After-read-numbers2) where
   read = c .before .before .before .before .before .before .before .before
 
   phandle-fault : c .read-numbers2 .result ≡ phandlesFault (b7 c)
-  phandle-fault = c .read-numbers2 .ensures .0 ∙ numbers-stage (b7 c) (well-5 read) (indexed read .index-keys .ensures) (listed-is (wholes read)) {wanted = Phandles} refl 17
+  phandle-fault = c .read-numbers2 .ensures .0 ∙ numbers-stage (b7 c) (well-5 read) (indexed read .index-keys .ensures) (all-listed (wholes read) 256 (omega arith)) {wanted = Phandles} refl 17
 
   phandles-laid : phandlesFault (b7 c) .number ≡ 0 → c .read-numbers2 .last .1 .1 .1 .1 .1 .0 ≡ over (phandleList (b7 c)) (replicate 256 0)
   phandles-laid z =
-      c .read-numbers2 .ensures .1 ∙ numbers-found (b7 c) (well-5 read) (indexed read .index-keys .ensures) (listed-is (wholes read)) {wanted = Phandles} refl 17 _ z
+      c .read-numbers2 .ensures .1 ∙ numbers-found (b7 c) (well-5 read) (indexed read .index-keys .ensures) (all-listed (wholes read) 256 (omega arith)) {wanted = Phandles} refl 17 _ z
 
 clear-phandles : (c : tie.Else6) → phandlesFault (b7 (c .before .before .before)) .number ≡ 0
 clear-phandles c = ap (λ (f : Fault). f .number) (sym (phandle-fault (c .before .before .before))) ∙ c .if6 .left
@@ -306,9 +318,7 @@ index-keys-requires : tie.Need-index-keys-requires
 index-keys-requires c κs = search needs
 
 read-numbers-requires : tie.Need-read-numbers-requires
-read-numbers-requires c κs =
-    let w = c .before .before .before .before .before in
-    omega (arith, listed-size w, count-is (w .before .before), listed-few (w .before .before), c .read-numbers-arg .given .0 .1)
+read-numbers-requires c κs = search needs
 
 stop-requires-4 : tie.Need-stop-requires-4
 stop-requires-4 c κs = search needs
@@ -336,9 +346,7 @@ slice-aggregate-read-numbers : tie.Need-slice-aggregate-read-numbers
 slice-aggregate-read-numbers c = search needs
 
 read-numbers-requires-2 : tie.Need-read-numbers-requires-2
-read-numbers-requires-2 c κs =
-    let first = c .before .before .before .before .before .before .before in
-    omega (arith, listed-size (wholes first), count-is (at-count first), listed-few (at-count first), length-replicate {A = ℕ} 256 0)
+read-numbers-requires-2 c κs = search needs
 
 stop-requires-6 : tie.Need-stop-requires-6
 stop-requires-6 c κs = search needs
