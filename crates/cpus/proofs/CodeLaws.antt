@@ -18,18 +18,10 @@ use Rattle.cpus.specs.declared.Cell.the-variants.{Is, Not}
 use Rattle.cpus.specs.Words.{cpuString}
 use Rattle.cpus.specs.Cell.{valueSized, cellIn, valueIn, isCpuString}
 
--- whether property k's value has so many cells
-module _ (props pool : List ℕ) (k cells : ℕ) where
-  pub other-size : {len : ℕ} → len ≡ valueLength props k → (len ≡ 4 * cells → ⊥) → false ≡ valueSized props pool (4 * cells) k
-  other-size e ne = rw (ne-eqb (valueLength props k) (4 * cells) (λ q. ne (e ∙ q)))
-
-  pub that-size :
-      {len offset : ℕ} → len ≡ valueLength props k → offset ≡ valueOffset props k → len ≡ 4 * cells → leb (offset + len) (length pool) ≡ valueSized props pool (4 * cells) k
-  that-size {len} {offset} l o e =
-      ap₂ (λ (x y : ℕ). leb (x + y) (length pool)) o e ∙ sym (rw (eq-eqb (valueLength props k) (4 * cells) (sym l ∙ e)))
-
-  pub sized-inside : valueSized props pool (4 * cells) k ≡ true → valueOffset props k + 4 * cells ≤ length pool
-  sized-inside h = leb-true _ _ (both-true (eqb (valueLength props k) (4 * cells)) h .1)
+-- whether property k's value has a length
+module _ (props pool : List ℕ) (k size : ℕ) where
+  pub sized-inside : valueSized props pool size k ≡ true → valueOffset props k + size ≤ length pool
+  sized-inside h = leb-true _ _ (both-true (eqb (valueLength props k) size) h .1)
 
 -- a value is `cpu` and a zero byte where its cell is
 module _ (props pool : List ℕ) (bytes : (i : ℕ) → getD pool i 0 < 256) where
@@ -54,12 +46,3 @@ module _ (props pool : List ℕ) (bytes : (i : ℕ) → getD pool i 0 < 256) whe
           cell-is pool offset 0x63707500 bytes (omega arith) (λ z. omega arith) ∙ ap (λ (n : ℕ). rangeIs pool offset n cpuString) (sym (eqb-true len 4 e))
       go true e false q = rw (eqb-true len 4 e, q)
       go false e b q = other-length pool offset len cpuString (eqb-false len 4 e)
-
--- the address cells of a root record that is sound but for them, and of one that is not
-pub allowed-cells : (n : ℕ) → n ≡ cond (eqb (cond (eqb n 0) 9 0) 0) n 0
-allowed-cells zero = refl
-allowed-cells (suc n) = rw (ne-eqb (suc n) 0 (λ z. omega arith))
-
-pub other-cells : (n : ℕ) → 0 ≡ cond (eqb (cond (eqb n 0) 9 9) 0) n 0
-other-cells zero = refl
-other-cells (suc n) = rw (ne-eqb (suc n) 0 (λ z. omega arith))

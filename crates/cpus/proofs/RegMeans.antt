@@ -19,13 +19,17 @@ use Rattle.tables.proofs.LookupLaws.{lookup-cases}
 use Rattle.tables.proofs.CellLaws.{cell-bytes, cell-back, cell-bytes-apart, cell-lt}
 use Rattle.cpus.specs.declared.Cell.{Cell}
 use Rattle.cpus.specs.declared.Cell.the-variants.{Is, Not}
+use Rattle.cpus.specs.declared.Cells.{Cells}
+use Rattle.cpus.specs.declared.Cells.the-variants.{One, Two}
+use Rattle.cpus.specs.declared.RootCells.{RootCells}
+use Rattle.cpus.specs.declared.RootCells.the-variants.{Are, Broken}
 use Rattle.cpus.specs.declared.Mpidr.{Mpidr}
 use Rattle.cpus.specs.declared.Mpidr.the-variants as read
 use Rattle.keys.specs.Key.{regKey, phandleKey, deviceTypeKey}
 use Rattle.cpus.specs.Words.{cpuString, addressCellsKey}
 use Rattle.cpus.specs.Node.{CellsAllowed, AddressCells, Reg, mpidr, Phandle}
-use Rattle.cpus.specs.Cell.{valueSized, cellsAt, phandleIn, cellOf, hasValue, mpidrOf}
-use Rattle.cpus.specs.Check.{cellsFor, addressCells, mpidrReadings, phandleReadings}
+use Rattle.cpus.specs.Cell.{sizeOf, valueSized, cellsAt, phandleIn, cellOf, hasValue, mpidrOf}
+use Rattle.cpus.specs.Check.{cellsFor, addressCells, regCells, mpidrReadings, phandleReadings}
 use Rattle.cpus.specs.Gather.{reading, mpidrReading, phandleReading, readingFrom, readingOf}
 use Rattle.cpus.specs.declared.Reading.{Reading}
 use Rattle.cpus.proofs.ValueMeans.{sized-test, value-of, value-unique, value-sized, has-value-test, CellSays, cell-says}
@@ -39,10 +43,15 @@ cells-cases CellsAllowed.two = inr (refl, refl)
 cells-lt : {width n : ℕ} → CellsAllowed width n → n < 2 ^ 32
 cells-lt c = ⊎-elim (λ e. omega arith) (λ t. omega (arith, t .0)) (cells-cases c)
 
--- what the number of address cells says of a board: 0 where there is none that is allowed
-pub data CellsSay (b : Board) : ℕ → Type 0 where
-  cells : {n : ℕ} → AddressCells b n → CellsSay b n
-  none : ((n : ℕ) → AddressCells b n → ⊥) → CellsSay b 0
+-- the number that `#address-cells` holds for one cell, and for two
+abbrev pub countOf : Cells → ℕ
+countOf One = 1
+countOf Two = 2
+
+-- what the address cells say of a board
+pub data CellsSay (b : Board) : RootCells → Type 0 where
+  cells : {c : Cells} → AddressCells b (countOf c) → CellsSay b (Are c)
+  none : ((n : ℕ) → AddressCells b n → ⊥) → CellsSay b Broken
 
 -- the two cells of a `reg` have affinity bits alone
 pub reg-bounds : {b : Board} {i u l : ℕ} → Reg b i u l → (u < 2 ^ 8) × (l < 2 ^ 24)
@@ -74,41 +83,47 @@ module _ {b : Board} (well : WellFormed b) where
       both (Reg.twoCells a g _ _) (Reg.oneCell c h _) d e = not-both c a
       both {u = u} {l = l} (Reg.twoCells a g _ _) (Reg.twoCells c h _ _) d e = (cellBytes u ++ cellBytes l, g, rw (d, e) h)
 
-  -- where `reg` lies: four bytes for each address cell, and the MPIDR of them
-  module _ {n i k : ℕ} (a : AddressCells b n) (p : Property b i regKey k) where
-    pub reg-sized : {u l : ℕ} → Reg b i u l → valueSized (b .props) (b .pool) (4 * n) k ≡ true
-    reg-sized (Reg.oneCell c h _) = value-sized well (4 * n) p h (let e = cells-unique a c in omega arith)
-    reg-sized (Reg.twoCells c h _ _) = value-sized well (4 * n) p h (let e = cells-unique a c in omega arith)
+  -- where `reg` lies: four bytes for each cell, and the MPIDR of them
+  module _ {i k : ℕ} (p : Property b i regKey k) where
+    pub reg-sized : (c : Cells) → AddressCells b (countOf c) → {u l : ℕ} → Reg b i u l → valueSized (b .props) (b .pool) (sizeOf c) k ≡ true
+    reg-sized One a (Reg.oneCell _ h _) = value-sized well 4 p h refl
+    reg-sized One a (Reg.twoCells c h _ _) = not-both a c
+    reg-sized Two a (Reg.oneCell c h _) = not-both c a
+    reg-sized Two a (Reg.twoCells _ h _ _) = value-sized well 8 p h refl
 
-    pub reg-read : {u l : ℕ} → Reg b i u l → cellsAt (b .pool) n (valueOffset (b .props) k) ≡ mpidr u l
-    reg-read {u} {l} r = go r (sized-test (b .props) (b .pool) (4 * n) k .0 (reg-sized r))
+    pub reg-read : (c : Cells) → AddressCells b (countOf c) → {u l : ℕ} → Reg b i u l → cellsAt (b .pool) c (valueOffset (b .props) k) ≡ mpidr u l
+    reg-read c a {u} {l} r = go c a r (sized-test (b .props) (b .pool) (sizeOf c) k .0 (reg-sized c a r))
       where
         at : ℕ
         at = valueOffset (b .props) k
 
-        go : {x : ℕ} → Reg b i x l → (valueLength (b .props) k ≡ 4 * n) × (at + 4 * n ≤ length (b .pool)) → cellsAt (b .pool) n at ≡ mpidr x l
-        go (Reg.oneCell c h lt) s =
-            let e = cells-unique a c in
-            let size : valueLength (b .props) k ≡ 4 = omega (arith, s .0) in
-            rw (e, cell-back (b .pool) at (omega (arith, s .1)) l (omega arith) (rw size at (value-of well p h .1))) (omega arith)
-        go (Reg.twoCells {upper = x} c h hu hl) s =
-            let e = cells-unique a c in
-            let size : valueLength (b .props) k ≡ 8 = omega (arith, s .0) in
-            let t = pair-back (b .pool) at (omega (arith, s .1)) x l (omega arith) (omega arith) (rw size at (value-of well p h .1)) in
-            rw (e, t .0, t .1)
+        go :
+            (c : Cells) →
+            AddressCells b (countOf c) →
+            {x : ℕ} →
+            Reg b i x l →
+            (valueLength (b .props) k ≡ sizeOf c) × (at + sizeOf c ≤ length (b .pool)) →
+            cellsAt (b .pool) c at ≡ mpidr x l
+        go One a (Reg.oneCell _ h lt) s = rw (cell-back (b .pool) at (s .1) l (omega arith) (rw (s .0) at (value-of well p h .1))) (omega arith)
+        go One a (Reg.twoCells c h _ _) s = not-both a c
+        go Two a (Reg.oneCell c h _) s = not-both c a
+        go Two a (Reg.twoCells {upper = x} _ h hu hl) s =
+            let t = pair-back (b .pool) at (s .1) x l (omega arith) (omega arith) (rw (s .0) at (value-of well p h .1)) in
+            rw (t .0, t .1)
 
-  reg-place : {i u l : ℕ} → Reg b i u l → ((n : ℕ) × AddressCells b n) × ((k : ℕ) × Property b i regKey k)
-  reg-place (Reg.oneCell a h _) = ((1, a), (h .record-number, h .property))
-  reg-place (Reg.twoCells a h _ _) = ((2, a), (h .record-number, h .property))
+  reg-place : {i u l : ℕ} → Reg b i u l → ((c : Cells) × AddressCells b (countOf c)) × ((k : ℕ) × Property b i regKey k)
+  reg-place (Reg.oneCell a h _) = ((One, a), (h .record-number, h .property))
+  reg-place (Reg.twoCells a h _ _) = ((Two, a), (h .record-number, h .property))
 
   pub reg-unique : {i u l v m : ℕ} → Reg b i u l → Reg b i v m → (u ≡ v) × (l ≡ m)
   reg-unique {i} {u} {l} {v} {m} r s =
       let place = reg-place r in
+      let n = place .0 .0 in
       let a = place .0 .1 in
       let p = place .1 .1 in
       let g = reg-bounds r in
       let h = reg-bounds s in
-      mpidr-apart u l (g .0) (g .1) v m (h .0) (h .1) (sym (reg-read a p r) ∙ reg-read a p s)
+      mpidr-apart u l (g .0) (g .1) v m (h .0) (h .1) (sym (reg-read p n a r) ∙ reg-read p n a s)
 
 -- what a `reg` is read as: its MPIDR, or nothing where it is no MPIDR with affinity bits alone
 pub data RegSays (b : Board) (i : ℕ) : Mpidr → Type 0 where
@@ -136,10 +151,10 @@ module _ {b : Board} (typed : Typed b) (well : WellFormed b) where
           eqb w 2 ≡ s →
           (r : Bool) →
           eqb (b .width) 64 ≡ r →
-          CellsSay b (cond t 1 (cond s (cond r 2 0) 0))
-      pick {w} h lt true e s f r g = CellsSay.cells (record { value = rw (eqb-true w 1 e) at h; allowed = CellsAllowed.one })
+          CellsSay b (cond t (Are One) (cond s (cond r (Are Two) Broken) Broken))
+      pick {w} h lt true e s f r g = CellsSay.cells {c = One} (record { value = rw (eqb-true w 1 e) at h; allowed = CellsAllowed.one })
       pick {w} h lt false e true f true g =
-          CellsSay.cells {n = 2} (record { value = rw (eqb-true w 2 f) at h; allowed = rw (eqb-true (b .width) 64 g) CellsAllowed.two })
+          CellsSay.cells {c = Two} (record { value = rw (eqb-true w 2 f) at h; allowed = rw (eqb-true (b .width) 64 g) CellsAllowed.two })
       pick {w} h lt false e true f false g = CellsSay.none (refuse h lt (eqb-false w 1 e) (λ _. eqb-false (b .width) 64 g))
       pick {w} h lt false e false f r g = CellsSay.none (refuse h lt (eqb-false w 1 e) (λ q _. eqb-false w 2 f q))
 
@@ -147,63 +162,44 @@ module _ {b : Board} (typed : Typed b) (well : WellFormed b) where
       go (CellSays.cell {w = w} h lt) = pick h lt (eqb w 1) refl (eqb w 2) refl (eqb (b .width) 64) refl
       go (CellSays.none n) = CellsSay.none (λ m a. n (cellBytes m) (a .value) refl)
 
-  pub cells-test : {n : ℕ} → addressCells b ≡ n → (n ≡ 0 → ⊥) → AddressCells b n
-  cells-test {n} = go cells-say
-    where
-      go : {m : ℕ} → CellsSay b m → m ≡ n → (n ≡ 0 → ⊥) → AddressCells b n
-      go (CellsSay.cells a) e ne = rw e at a
-      go (CellsSay.none _) e ne = absurd (ne (sym e))
-
-  pub test-cells : {n : ℕ} → AddressCells b n → addressCells b ≡ n
-  test-cells {n} a = go cells-say
-    where
-      go : {m : ℕ} → CellsSay b m → m ≡ n
-      go (CellsSay.cells c) = cells-unique well c a
-      go (CellsSay.none f) = absurd (f n a)
-
-  module _ {n : ℕ} (a : AddressCells b n) (i : ℕ) where
+  module _ (c : Cells) (a : AddressCells b (countOf c)) (i : ℕ) where
     made :
         {k : ℕ} →
         Property b i regKey k →
-        valueSized (b .props) (b .pool) (4 * n) k ≡ true →
-        isAffine (cellsAt (b .pool) n (valueOffset (b .props) k)) ≡ true →
-        (u : ℕ) × (l : ℕ) × Reg b i u l × (cellsAt (b .pool) n (valueOffset (b .props) k) ≡ mpidr u l)
-    made {k} p sized affine = ⊎-elim one (λ t. two (t .0)) (cells-cases (a .allowed))
+        valueSized (b .props) (b .pool) (sizeOf c) k ≡ true →
+        isAffine (cellsAt (b .pool) c (valueOffset (b .props) k)) ≡ true →
+        (u : ℕ) × (l : ℕ) × Reg b i u l × (cellsAt (b .pool) c (valueOffset (b .props) k) ≡ mpidr u l)
+    made {k} p sized affine = go c a (sized-test (b .props) (b .pool) (sizeOf c) k .0 sized) affine
       where
         at : ℕ
         at = valueOffset (b .props) k
 
-        size : (valueLength (b .props) k ≡ 4 * n) × (at + 4 * n ≤ length (b .pool))
-        size = sized-test (b .props) (b .pool) (4 * n) k .0 sized
-
         lower : (x : ℕ) → cellAt (b .pool) x < 2 ^ 32
         lower x = cell-lt (b .pool) x (typed .bytes)
 
-        one : n ≡ 1 → (u : ℕ) × (l : ℕ) × Reg b i u l × (cellsAt (b .pool) n at ≡ mpidr u l)
-        one e =
-            let len : valueLength (b .props) k ≡ 4 = omega (arith, size .0) in
-            let inside : at + 4 ≤ length (b .pool) = omega (arith, size .1) in
-            let same : cellsAt (b .pool) n at ≡ mpidr 0 (cellAt (b .pool) at) = rw e (omega arith) in
+        go :
+            (c : Cells) →
+            AddressCells b (countOf c) →
+            (valueLength (b .props) k ≡ sizeOf c) × (at + sizeOf c ≤ length (b .pool)) →
+            isAffine (cellsAt (b .pool) c at) ≡ true →
+            (u : ℕ) × (l : ℕ) × Reg b i u l × (cellsAt (b .pool) c at ≡ mpidr u l)
+        go One a size affine =
+            let same : cellAt (b .pool) at ≡ mpidr 0 (cellAt (b .pool) at) = omega arith in
             let parts = affine-parts 0 (cellAt (b .pool) at) (omega arith) (lower at) (rw same at affine) in
             let value : HasValue b i regKey (cellBytes (cellAt (b .pool) at)) =
-            record { record-number = k; property = p; range = omega arith; bytes = rw len (cell-bytes (b .pool) at inside (typed .bytes)) } in
-            (0, cellAt (b .pool) at, Reg.oneCell (rw e at a) value (parts .1), same)
-
-        two : n ≡ 2 → (u : ℕ) × (l : ℕ) × Reg b i u l × (cellsAt (b .pool) n at ≡ mpidr u l)
-        two e =
-            let len : valueLength (b .props) k ≡ 8 = omega (arith, size .0) in
-            let inside : at + 8 ≤ length (b .pool) = omega (arith, size .1) in
-            let same : cellsAt (b .pool) n at ≡ mpidr (cellAt (b .pool) at) (cellAt (b .pool) (at + 4)) = rw e in
-            let parts = affine-parts (cellAt (b .pool) at) (cellAt (b .pool) (at + 4)) (lower at) (lower (at + 4)) (rw same at affine) in
+            record { record-number = k; property = p; range = omega (arith, size); bytes = rw (size .0) (cell-bytes (b .pool) at (size .1) (typed .bytes)) } in
+            (0, cellAt (b .pool) at, Reg.oneCell a value (parts .1), same)
+        go Two a size affine =
+            let parts = affine-parts (cellAt (b .pool) at) (cellAt (b .pool) (at + 4)) (lower at) (lower (at + 4)) affine in
             let value : HasValue b i regKey (cellBytes (cellAt (b .pool) at) ++ cellBytes (cellAt (b .pool) (at + 4))) =
-            record { record-number = k; property = p; range = omega arith; bytes = rw len (pair-bytes (b .pool) at inside (typed .bytes)) } in
-            (cellAt (b .pool) at, cellAt (b .pool) (at + 4), Reg.twoCells (rw e at a) value (parts .0) (parts .1), same)
+            record { record-number = k; property = p; range = omega (arith, size); bytes = rw (size .0) (pair-bytes (b .pool) at (size .1) (typed .bytes)) } in
+            (cellAt (b .pool) at, cellAt (b .pool) (at + 4), Reg.twoCells a value (parts .0) (parts .1), refl)
 
-    pub reg-says : RegSays b i (mpidrOf (b .props) (b .pool) n i)
+    pub reg-says : RegSays b i (mpidrOf (b .props) (b .pool) c i)
     unfolding mpidrOf
     reg-says =
         ⊎-elim
-        (λ t. rw (t .1) (at (t .2 .property) (valueSized (b .props) (b .pool) (4 * n) (t .0)) refl (isAffine (cellsAt (b .pool) n (valueOffset (b .props) (t .0)))) refl))
+        (λ t. rw (t .1) (at (t .2 .property) (valueSized (b .props) (b .pool) (sizeOf c) (t .0)) refl (isAffine (cellsAt (b .pool) c (valueOffset (b .props) (t .0)))) refl))
         (λ t. rw (t .0) (RegSays.none (λ u l r. let k = reg-place well r .1 in t .1 (k .0) (k .1))))
         (lookup-cases b i regKey)
       where
@@ -211,15 +207,15 @@ module _ {b : Board} (typed : Typed b) (well : WellFormed b) where
             {k : ℕ} →
             Property b i regKey k →
             (t : Bool) →
-            valueSized (b .props) (b .pool) (4 * n) k ≡ t →
+            valueSized (b .props) (b .pool) (sizeOf c) k ≡ t →
             (s : Bool) →
-            isAffine (cellsAt (b .pool) n (valueOffset (b .props) k)) ≡ s →
-            RegSays b i (cond t (cond s (read.Is (cellsAt (b .pool) n (valueOffset (b .props) k))) read.Not) read.Not)
+            isAffine (cellsAt (b .pool) c (valueOffset (b .props) k)) ≡ s →
+            RegSays b i (cond t (cond s (read.Is (cellsAt (b .pool) c (valueOffset (b .props) k))) read.Not) read.Not)
         at p true e true f = let t = made p e f in RegSays.reg (t .2) (t .3)
         at p true e false f =
             RegSays.none
-            (λ u l r. let g = reg-bounds r in true-false (parts-affine u l (g .0) (g .1)) (rw (reg-read well a p r) at f))
-        at p false e s f = RegSays.none (λ u l r. true-false (reg-sized well a p r) e)
+            (λ u l r. let g = reg-bounds r in true-false (parts-affine u l (g .0) (g .1)) (rw (reg-read well p c a r) at f))
+        at p false e s f = RegSays.none (λ u l r. true-false (reg-sized well p c a r) e)
 
 -- what a cpu record's MPIDR is read as: its `reg`, or the rule that is broken
 pub data MpidrSays (b : Board) (i : ℕ) : Reading → Type 0 where
@@ -236,10 +232,10 @@ pub phandle-unique : {b : Board} (well : WellFormed b) {i g h : ℕ} → Phandle
 phandle-unique well {i} {g} {h} p q = cell-bytes-apart g h (p .word) (q .word) (value-unique well (p .value) (q .value))
 
 module _ {b : Board} (typed : Typed b) (well : WellFormed b) (i : ℕ) where
-  module _ (a : AddressCells b (addressCells b)) where
+  module _ (a : AddressCells b (countOf (regCells b))) where
     pub mpidr-says : MpidrSays b i (mpidrReadings b i)
     unfolding readingFrom readingOf hasValue mpidrOf
-    mpidr-says = go _ (has-value-test well cpuString) (reg-says typed well a i)
+    mpidr-says = go _ (has-value-test well cpuString) (reg-says typed well (regCells b) a i)
       where
         go : (s : Bool) → Decides s (HasValue b i deviceTypeKey cpuString) → {c : Mpidr} → RegSays b i c → MpidrSays b i (cond s (mpidrReading c) (reading 11 0))
         go true kind (RegSays.reg r q) = MpidrSays.reg (kind .0 refl) r q

@@ -12,8 +12,15 @@ use Rattle.tables.specs.Property.{lookup, cellAt}
 use Rattle.keys.specs.Key.{regKey}
 use Rattle.cpus.specs.declared.Cell.{Cell}
 use Rattle.cpus.specs.declared.Cell.the-variants.{Is, Not}
+use Rattle.cpus.specs.declared.Cells.{Cells}
+use Rattle.cpus.specs.declared.Cells.the-variants.{One, Two}
 use Rattle.cpus.specs.declared.Mpidr.{Mpidr}
 use Rattle.cpus.specs.declared.Mpidr.the-variants as mpidr
+
+-- the bytes of one cell, or of two
+abbrev pub sizeOf : Cells → ℕ
+sizeOf One = 4
+sizeOf Two = 8
 
 -- whether property k's value lies inside the pool and has a length
 abbrev pub valueSized : List ℕ → List ℕ → ℕ → ℕ → Bool
@@ -42,19 +49,20 @@ isCpuString (Is w) = eqb w 0x63707500
 isCpuString Not = false
 
 -- the MPIDR of the cells from `at` on: the lower cell alone, or the upper and the lower
-abbrev pub cellsAt : List ℕ → ℕ → ℕ → ℕ
-cellsAt pool cells at = cond (eqb cells 2) (cellAt pool at * 2 ^ 32 + cellAt pool (at + 4)) (cellAt pool at)
+abbrev pub cellsAt : List ℕ → Cells → ℕ → ℕ
+cellsAt pool One at = cellAt pool at
+cellsAt pool Two at = cellAt pool at * 2 ^ 32 + cellAt pool (at + 4)
 
 -- an MPIDR with affinity bits alone
 abbrev pub affineOnly : ℕ → Mpidr
 affineOnly m = cond (isAffine m) (mpidr.Is m) mpidr.Not
 
-abbrev pub mpidrIn : List ℕ → List ℕ → ℕ → Lookup → Mpidr
-mpidrIn props pool cells (At k) = cond (valueSized props pool (4 * cells) k) (affineOnly (cellsAt pool cells (valueOffset props k))) mpidr.Not
+abbrev pub mpidrIn : List ℕ → List ℕ → Cells → Lookup → Mpidr
+mpidrIn props pool cells (At k) = cond (valueSized props pool (sizeOf cells) k) (affineOnly (cellsAt pool cells (valueOffset props k))) mpidr.Not
 mpidrIn props pool cells Missing = mpidr.Not
 
--- record i's `reg` as an MPIDR, if it has four bytes for each address cell and affinity bits alone
-unfoldable pub mpidrOf : List ℕ → List ℕ → ℕ → ℕ → Mpidr
+-- record i's `reg` as an MPIDR, if it has so many cells and affinity bits alone
+unfoldable pub mpidrOf : List ℕ → List ℕ → Cells → ℕ → Mpidr
 mpidrOf props pool cells i = mpidrIn props pool cells (lookup props pool i regKey)
 
 -- a phandle: a cell that is neither 0 nor 0xFFFFFFFF

@@ -27,9 +27,21 @@ enum Mpidr {
     Not,
 }
 
-// The number of each cpu record to gather: its MPIDR of so many address cells, or its phandle.
+// A `reg` of one cell, or of two.
+pub enum Cells {
+    One,
+    Two,
+}
+
+// The cells of the board's `reg`s, or Broken where rule 9 is broken.
+pub enum RootCells {
+    Are(Cells),
+    Broken,
+}
+
+// The number of each cpu record to gather: its MPIDR, from a `reg` of so many cells, or its phandle.
 pub enum Wanted {
-    Mpidrs(usize),
+    Mpidrs(Cells),
     Phandles,
 }
 

@@ -14,6 +14,7 @@ pub use check::table_fault;
 pub use limits::MAX_NODES;
 pub use limits::MAX_PROPERTIES;
 pub use pool::cell_at;
+pub use pool::is_inside;
 pub use pool::range_is;
 pub use property::find_property;
 pub use tree::is_below;

@@ -14,7 +14,7 @@ returns : tie.Need-returns
 returns c = search needs
 
 returns-2 : tie.Need-returns-2
-returns-2 c = search needs
+returns-2 c = rw (c .before .before .cell .given .1, eq-eqb _ 1 (c .if1 .taken))
 
 returns-3 : tie.Need-returns-3
 returns-3 c = rw (c .before .before .before .cell .given .1, ne-eqb _ 1 (c .before .if1 .left), ne-eqb _ 2 (c .if2 .taken))

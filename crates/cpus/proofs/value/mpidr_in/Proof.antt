@@ -1,5 +1,6 @@
 -- `mpidr_in` meets its contract: each answer is the definition's at what was found. Assumes nothing.
 use mathlib.Core.Path.{sym, _∙_}
+use Rattle.cpus.specs.Cell.{sizeOf}
 use Rattle.cpus.proofs.CodeLaws.{sized-inside}
 use borrow.Author.Needs.{needs}
 use Rattle.cpus.proofs.value.mpidr_in.Statement.{statement}
@@ -24,7 +25,7 @@ cells-at-requires : tie.Need-cells-at-requires
 cells-at-requires c κs =
     let test = c .before in
     let a = test .before .before .before .before .before .before .before .args in
-    rw (c .prop-word .ensures) (sized-inside (a .props .now) (a .pool .now) _ (a .cells) (sym (test .before .has-cells .ensures) ∙ test .if1 .taken))
+    rw (c .prop-word .ensures) (sized-inside (a .props .now) (a .pool .now) _ (sizeOf (a .cells)) (sym (test .before .has-cells .ensures) ∙ test .if1 .taken))
 
 affine-only-requires : tie.Need-affine-only-requires
 affine-only-requires c κs = search needs
