@@ -63,7 +63,11 @@ module _ (r : ℕ → Reading) (rule : ℕ) (records before : List ℕ) where
   Told fault values = (fault ≡ firstRecord r rule cut) × (values ≡ numbersOver r rule cut before)
 
   told-index :
-      {fault : Fault} {k : ℕ} {values : List ℕ} → fault ≡ firstIndex r rule cut → passedOf cut fault ≡ k → Pass k values → Told (toldOf cut fault) values
+      {fault : Fault} {k : ℕ} {values : List ℕ} →
+      fault ≡ firstIndex r rule cut →
+      passedOf cut fault ≡ k →
+      Pass k values →
+      Told (toldOf cut fault) values
   unfolding firstRecord numbersOver
   told-index e p h = (ap (toldOf cut) e, h .held ∙ ap (λ (n : ℕ). over (numbers n) before) (sym p ∙ ap (passedOf cut) e))
 

@@ -7,16 +7,16 @@ use Rattle.laws.specs.declared.Fault.{Fault}
 use Rattle.laws.specs.Fault.{told, orElse}
 use Rattle.laws.specs.Search.{countBelow, listBelow}
 use Rattle.tables.specs.Board.{Board, nodeCount, parentWord, nameOffset, nameLength, rangeIs}
-use Rattle.cpus.specs.declared.Cell.{Cell}
-use Rattle.cpus.specs.declared.Cell.the-variants.{Is, Not}
 use Rattle.cpus.specs.declared.Cells.{Cells}
 use Rattle.cpus.specs.declared.Cells.the-variants.{One, Two}
 use Rattle.cpus.specs.declared.RootCells.{RootCells}
 use Rattle.cpus.specs.declared.RootCells.the-variants.{Are, Broken}
+use Rattle.cpus.specs.declared.Value.{Value}
+use Rattle.cpus.specs.declared.Value.the-variants.{Is, Not}
 use Rattle.cpus.specs.declared.Wanted.the-variants.{Mpidrs, Phandles}
 use Rattle.cpus.specs.declared.Reading.{Reading}
 use Rattle.cpus.specs.Words.{cpusWord, cpuWord, cpuUnit, addressCellsKey, sizeCellsKey}
-use Rattle.cpus.specs.Cell.{cellOf}
+use Rattle.cpus.specs.Cell.{cellOf, isNumber}
 use Rattle.cpus.specs.Rules.{maxCpus}
 use Rattle.cpus.specs.Gather.{readingOf, firstRecord}
 
@@ -32,22 +32,18 @@ unfoldable pub isCpu : List ℕ → List ℕ → ℕ → Bool
 isCpu nodes pool i = cond (isChild nodes 0 i) (isCpuName pool (nameOffset nodes i) (nameLength nodes i)) false
 
 -- what `#address-cells` gives a board of a width: one cell, or on width 64 two
-abbrev pub cellsFor : ℕ → Cell → RootCells
+abbrev pub cellsFor : ℕ → Value → RootCells
 cellsFor width (Is n) = cond (eqb n 1) (Are One) (cond (eqb n 2) (cond (eqb width 64) (Are Two) Broken) Broken)
 cellsFor width Not = Broken
 
 unfoldable pub addressCells : Board → RootCells
 addressCells b = cellsFor (b .width) (cellOf (b .props) (b .pool) 0 addressCellsKey)
 
-abbrev pub isZeroCell : Cell → Bool
-isZeroCell (Is n) = eqb n 0
-isZeroCell Not = false
-
 -- the cells of the board's `reg`s, or Broken where rule 9 is broken
 unfoldable pub soundCells : Board → RootCells
 soundCells b =
     cond (rangeIs (b .pool) (nameOffset (b .nodes) 0) (nameLength (b .nodes) 0) cpusWord)
-    (cond (isZeroCell (cellOf (b .props) (b .pool) 0 sizeCellsKey)) (addressCells b) Broken)
+    (cond (isNumber (cellOf (b .props) (b .pool) 0 sizeCellsKey) 0) (addressCells b) Broken)
     Broken
 
 -- rule 9

@@ -2,32 +2,26 @@
 mod gather;
 mod limits;
 mod node;
+mod property;
 mod read;
 mod root;
-mod value;
 
 pub use gather::read_numbers;
 pub use limits::MAX_CPUS;
 pub use node::is_child;
 pub use node::is_cpu;
+pub use property::cell_in;
 pub use root::count_fault;
 pub use root::list_cpus;
 pub use root::read_cells;
-pub use value::cell_in;
 
-// A property's value of four bytes, or not.
-pub enum Cell {
-    Is(u32),
-    Not,
-}
-
-// A `reg` with affinity bits alone, or not.
-enum Mpidr {
+// A property's value as a number, or not.
+pub enum Value {
     Is(u64),
     Not,
 }
 
-// A `reg` of one cell, or of two.
+// A value of one cell, or of two.
 pub enum Cells {
     One,
     Two,

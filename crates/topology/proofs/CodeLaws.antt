@@ -17,7 +17,7 @@ use Rattle.tables.specs.Board.{nodeCount, range, parentWord, nameOffset, nameLe
 use Rattle.tables.specs.declared.Parent.the-variants.{Is, Top}
 use Rattle.tables.specs.Tree.{parentOf, climb, isBelow, Child, Ancestor}
 use Rattle.tables.proofs.TreeLaws.{parent-is, parent-top, the-parent, climb-parent, climb-none, climb-keeps, below-ancestor}
-use Rattle.cpus.specs.declared.Cell.{Cell}
+use Rattle.cpus.specs.declared.Value.{Value}
 use Rattle.cpus.specs.Check.{isChild}
 use Rattle.topology.specs.declared.ClusterPath.{ClusterPath}
 use Rattle.topology.specs.declared.Position.{Position}
@@ -176,7 +176,7 @@ named-fault nodes pool map i name ne e =
     (ap (λ (q : ℕ). orNumber (kindFault nodes pool map q name) (orNumber (numberFault nodes q i name) (shapeFault nodes pool q i name))) e)
 
 -- rules 19 to 24 at a record below the map with a given name
-module _ (nodes : List ℕ) (cells : ℕ → Cell) (pool : List ℕ) (map : ℕ) (phandles : List ℕ) (i : ℕ) {name : TopologyName} {v : ℕ} (n : name ≡ topologyName nodes pool i) (e : v ≡ mapRecordFault nodes pool map i name) where
+module _ (nodes : List ℕ) (cells : ℕ → Value) (pool : List ℕ) (map : ℕ) (phandles : List ℕ) (i : ℕ) {name : TopologyName} {v : ℕ} (n : name ≡ topologyName nodes pool i) (e : v ≡ mapRecordFault nodes pool map i name) where
   fault : v ≡ mapRecordFault nodes pool map i (topologyName nodes pool i)
   fault = e ∙ ap (mapRecordFault nodes pool map i) n
 

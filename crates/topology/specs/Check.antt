@@ -13,8 +13,8 @@ use Rattle.tables.specs.Tree.{isBelow}
 use Rattle.keys.specs.declared.Key.the-variants.{Cpu}
 use Rattle.keys.specs.Key.{cpuKey}
 use Rattle.keys.specs.Index.{keyAt}
-use Rattle.cpus.specs.declared.Cell.{Cell}
-use Rattle.cpus.specs.declared.Cell.the-variants as cell
+use Rattle.cpus.specs.declared.Value.{Value}
+use Rattle.cpus.specs.declared.Value.the-variants as cell
 use Rattle.cpus.specs.Cell.{cellIn, cellOf}
 use Rattle.cpus.specs.Check.{isChild}
 use Rattle.topology.specs.declared.RecordCheck.{RecordCheck}
@@ -79,20 +79,20 @@ unfoldable pub numberFault : List ℕ → ℕ → ℕ → TopologyName → ℕ
 numberFault nodes p i name = cond (eqb (topologyNumber name) (countBelow (isChild nodes p) i)) 0 21
 
 -- the index of the phandle that a leaf's `cpu` holds, or their number where it holds none
-abbrev pub indexOf : List ℕ → Cell → ℕ
+abbrev pub indexOf : List ℕ → Value → ℕ
 indexOf phandles (cell.Is w) = placeIn phandles w
 indexOf phandles cell.Not = length phandles
 
 -- the same of leaf i, by the cells of the records' `cpu`
-unfoldable pub leafCpu : (ℕ → Cell) → List ℕ → ℕ → ℕ
+unfoldable pub leafCpu : (ℕ → Value) → List ℕ → ℕ → ℕ
 leafCpu cells phandles i = indexOf phandles (cells i)
 
 -- the cell of each record's `cpu`, looked up
-abbrev pub cpuCells : List ℕ → List ℕ → ℕ → Cell
+abbrev pub cpuCells : List ℕ → List ℕ → ℕ → Value
 cpuCells props pool i = cellOf props pool i cpuKey
 
 -- the same, by a table of keys
-abbrev pub keyCells : List ℕ → List ℕ → List ℕ → ℕ → Cell
+abbrev pub keyCells : List ℕ → List ℕ → List ℕ → ℕ → Value
 keyCells props pool keys i = cellIn props pool (keyAt keys i Cpu)
 
 -- rule 23, and 22 of a cluster under parent p
@@ -133,14 +133,14 @@ mapRecordFault nodes pool map i name =
     (orNumber (numberFault nodes (parentWord nodes i) i name) (shapeFault nodes pool (parentWord nodes i) i name)))
 
 -- what record i, below the map, breaks of 19 to 24, and the cpu that it names where it is a leaf
-unfoldable pub mapRecordCheck : List ℕ → (ℕ → Cell) → List ℕ → ℕ → List ℕ → ℕ → RecordCheck
+unfoldable pub mapRecordCheck : List ℕ → (ℕ → Value) → List ℕ → ℕ → List ℕ → ℕ → RecordCheck
 mapRecordCheck nodes cells pool map phandles i =
     cond (eqb (mapRecordFault nodes pool map i (topologyName nodes pool i)) 0)
     (cond (isLeafName nodes i (topologyName nodes pool i)) (leafCheck (length phandles) (leafCpu cells phandles i)) (broken 0 (length phandles)))
     (broken (mapRecordFault nodes pool map i (topologyName nodes pool i)) (length phandles))
 
 -- what record i breaks of 18 to 24, and the cpu that it names where it is a leaf
-unfoldable pub recordCheck : List ℕ → (ℕ → Cell) → List ℕ → ℕ → List ℕ → ℕ → RecordCheck
+unfoldable pub recordCheck : List ℕ → (ℕ → Value) → List ℕ → ℕ → List ℕ → ℕ → RecordCheck
 recordCheck nodes cells pool map phandles i =
     cond (eqb i 0) (broken 0 (length phandles))
     (cond (eqb i map) (broken (groupFault nodes i) (length phandles))

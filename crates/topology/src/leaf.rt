@@ -1,7 +1,7 @@
 // Leaves of the map and the cpus that they name: rule 24.
 use crate::RecordCheck;
 use crate::shape::has_child;
-use cpus::Cell;
+use cpus::Value;
 use cpus::cell_in;
 use keys::KEY_WORDS;
 use keys::Key;
@@ -25,12 +25,12 @@ pub fn is_leaf_name(nodes: &[u32], i: usize, name: TopologyName) -> bool
     }
 }
 
-fn index_of(phandles: &[u64], cell: Cell) -> usize
+fn index_of(phandles: &[u64], cell: Value) -> usize
     ensures { λ r. ⌜ r ≡ indexOf (now (phandles .entry)) cell ⌝ }
 {
     match cell {
-        Cell::Is(word) => place_in(phandles, word as u64),
-        Cell::Not => phandles.len(),
+        Value::Is(word) => place_in(phandles, word),
+        Value::Not => phandles.len(),
     }
 }
 

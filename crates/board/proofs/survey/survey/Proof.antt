@@ -20,8 +20,7 @@ use Rattle.cpus.specs.Rules.{maxCpus}
 use Rattle.cpus.specs.Check.{rootNumber, rootFault, cellsOf, regCells, cpuCount, cpuList, countFault, cpuFault, phandlesFault, phandleList, mpidrList}
 use Rattle.cpus.specs.declared.RootCells.{RootCells}
 use Rattle.cpus.specs.declared.Wanted.the-variants.{Mpidrs, Phandles}
-use Rattle.cpus.proofs.CpuMeans.{cpu-count}
-use Rattle.cpus.proofs.RootLaws.{count-fits}
+use Rattle.cpus.proofs.CpuMeans.{cpu-count, count-fits}
 use Rattle.topology.specs.declared.MapScan.{MapScan}
 use Rattle.topology.specs.declared.TreeScan.{TreeScan}
 use Rattle.topology.specs.Find.{mapOf}
@@ -105,7 +104,8 @@ counted c = c .count-fault .ensures ∙ ap countFault (c .before .list-cpus .ens
 rest-3 : (c : tie.Else2) → surveyFault (b4 (c .before)) ≡ fromCpus (b4 (c .before))
 rest-3 c =
     let b = b4 (c .before) in
-    rest-2 (c .before .before .before .before) ∙ or-second (told (countFault (cpuCount b)) 0) _ (told-number _ 0 ∙ sym (counted (c .before)) ∙ c .if2 .left)
+    rest-2 (c .before .before .before .before)
+    ∙ or-second (told (countFault (cpuCount b)) 0) _ (told-number _ 0 ∙ sym (counted (c .before)) ∙ c .if2 .left)
 
 few : (c : tie.Else2) → cpuCount (b4 (c .before)) ≤ maxCpus
 few c = count-fits (cpuCount (b4 (c .before))) (sym (counted (c .before)) ∙ c .if2 .left)
@@ -191,17 +191,21 @@ module _ (c : tie.After-read-numbers2) where
   abbrev read : tie.After-read-numbers
   read = c .before .before .before .before .before .before .before .before
 
+  all-cpus : take 256 (take (count (wholes read)) (array (wholes read))) ≡ cpuList (b7 c)
+  all-cpus = all-listed (wholes read) 256 (omega arith)
+
   phandle-fault : c .read-numbers2 .result ≡ phandlesFault (b7 c)
-  phandle-fault = c .read-numbers2 .ensures .0 ∙ numbers-stage (b7 c) (well-5 read) (indexed read .index-keys .ensures) (all-listed (wholes read) 256 (omega arith)) {wanted = Phandles} refl 17
+  phandle-fault =
+      c .read-numbers2 .ensures .0 ∙ numbers-stage (b7 c) (well-5 read) (indexed read .index-keys .ensures) all-cpus {wanted = Phandles} refl 17
 
   phandles-laid : phandlesFault (b7 c) .number ≡ 0 → c .read-numbers2 .last .1 .1 .1 .1 .1 .0 ≡ over (phandleList (b7 c)) (replicate 256 0)
   phandles-laid z =
-      c .read-numbers2 .ensures .1 ∙ numbers-found (b7 c) (well-5 read) (indexed read .index-keys .ensures) (all-listed (wholes read) 256 (omega arith)) {wanted = Phandles} refl 17 _ z
+      c .read-numbers2 .ensures .1 ∙ numbers-found (b7 c) (well-5 read) (indexed read .index-keys .ensures) all-cpus {wanted = Phandles} refl 17 _ z
 
 clear-phandles : (c : tie.Else5) → phandlesFault (b7 (c .before .before .before)) .number ≡ 0
 clear-phandles c = ap (λ (f : Fault). f .number) (sym (phandle-fault (c .before .before .before))) ∙ c .if5 .left
 
-rest-6 : (c : tie.Else5) → surveyFault (b7 (c .before .before .before)) ≡ leavesFault (treeOf (b7 (c .before .before .before))) (cpuList (b7 (c .before .before .before)))
+rest-6 : (c : tie.Else5) → let b = b7 (c .before .before .before) in surveyFault b ≡ leavesFault (treeOf b) (cpuList b)
 rest-6 c = rest-5 (c .before .before .before .before .before .before) ∙ or-second (phandlesFault (b7 (c .before .before .before))) _ (clear-phandles c)
 
 module _ (c : tie.Else5) where
@@ -316,7 +320,9 @@ returns-3 : tie.Need-returns-3
 returns-3 c =
     let call = c .before .before in
     let b = b4 call in
-    tells-first b (told (countFault (cpuCount b)) 0) _ (rest-2 (call .before .before .before)) (c .stop3 .ensures) (c .before .if2 .taken) (counted call ∙ sym (told-number _ 0)) (told-at-zero (countFault (cpuCount b)))
+    tells-first b (told (countFault (cpuCount b)) 0) _ (rest-2 (call .before .before .before)) (c .stop3 .ensures) (c .before .if2 .taken)
+    (counted call ∙ sym (told-number _ 0))
+    (told-at-zero (countFault (cpuCount b)))
 
 slice-aggregate-listed : tie.Need-slice-aggregate-listed
 slice-aggregate-listed c = listed-size (c .before)
@@ -334,7 +340,9 @@ returns-4 : tie.Need-returns-4
 returns-4 c =
     let call = c .before .before .before in
     let is = mpidr-fault call in
-    tells-first (b5 call) (cpuFault (b5 call)) _ (rest-3 (at-count call)) (c .stop4 .ensures) (c .before .if3 .taken) (ap (λ (f : Fault). f .number) is) (ap (λ (f : Fault). f .place) is)
+    tells-first (b5 call) (cpuFault (b5 call)) _ (rest-3 (at-count call)) (c .stop4 .ensures) (c .before .if3 .taken)
+    (ap (λ (f : Fault). f .number) is)
+    (ap (λ (f : Fault). f .place) is)
 
 find-map-requires : tie.Need-find-map-requires
 find-map-requires c κs = search needs
@@ -346,7 +354,8 @@ returns-5 : tie.Need-returns-5
 returns-5 c =
     let call = c .before .before .before in
     let b = b6 call in
-    let place = ap (λ (r : MapScan). r .place) (call .find-map .ensures) ∙ map-place (b .nodes) (b .pool) (λ z. c .before .if4 .taken (map-fault call ∙ z)) in
+    let ne : mapStage b .number ≡ 0 → ⊥ = λ z. c .before .if4 .taken (map-fault call ∙ z) in
+    let place = ap (λ (r : MapScan). r .place) (call .find-map .ensures) ∙ map-place (b .nodes) (b .pool) ne in
     tells-first b (mapStage b) _ (rest-4 (call .before)) (c .stop5 .ensures) (c .before .if4 .taken) (map-fault call) place
 
 slice-aggregate-read-numbers : tie.Need-slice-aggregate-read-numbers
@@ -362,7 +371,9 @@ returns-6 : tie.Need-returns-6
 returns-6 c =
     let call = c .before .before .before .before in
     let is = phandle-fault call in
-    tells-first (b7 call) (phandlesFault (b7 call)) _ (rest-5 (call .before .before .before)) (c .stop6 .ensures) (c .before .if5 .taken) (ap (λ (f : Fault). f .number) is) (ap (λ (f : Fault). f .place) is)
+    tells-first (b7 call) (phandlesFault (b7 call)) _ (rest-5 (call .before .before .before)) (c .stop6 .ensures) (c .before .if5 .taken)
+    (ap (λ (f : Fault). f .number) is)
+    (ap (λ (f : Fault). f .place) is)
 
 array-share-prefix-phandles : tie.Need-array-share-prefix-phandles
 array-share-prefix-phandles c = let e = c .before in front-fits _ _ (phandles-laid (asked e) (clear-phandles e)) (as-many e) (few-phandles e)

@@ -46,7 +46,8 @@ returns c =
     let call = c .before .before in
     let test = call .before .before .before in
     let loop = test .before in
-    pass-told _ _ _ _ _ (loop .before .loop .inv .1) (ltb-true _ _ (test .if1 .taken)) (loop .loop-test .taken) (call .next-reading .ensures) (c .if2 .taken)
+    let pass = loop .before .loop .inv .1 in
+    pass-told _ _ _ _ _ pass (ltb-true _ _ (test .if1 .taken)) (loop .loop-test .taken) (call .next-reading .ensures) (c .if2 .taken)
 
 mul-values : tie.Need-mul-values Inv-loop μ-loop
 mul-values c = search needs

@@ -22,8 +22,8 @@ slice-aggregate-cell-of c = search needs
 cell-of-requires : tie.Need-cell-of-requires
 cell-of-requires c κs = search needs
 
-is-zero-cell-requires : tie.Need-is-zero-cell-requires
-is-zero-cell-requires c κs = search needs
+is-number-requires : tie.Need-is-number-requires
+is-number-requires c κs = search needs
 
 slice-aggregate-cell-of-2 : tie.Need-slice-aggregate-cell-of-2
 slice-aggregate-cell-of-2 c = search needs
@@ -42,7 +42,7 @@ returns-2 c =
     rw (
       sym (name .before .name-is .ensures) ∙ not-false _ (name .if1 .left),
       ← zero .before .before .cell-of .ensures,
-      sym (zero .before .is-zero-cell .ensures) ∙ zero .if2 .taken,
+      sym (zero .before .is-number .ensures) ∙ zero .if2 .taken,
       ← c .before .cell-of2 .ensures,
     ) (c .cells-for .ensures)
 
@@ -53,7 +53,7 @@ returns-3 c =
     rw (
       sym (name .before .name-is .ensures) ∙ not-false _ (name .if1 .left),
       ← c .before .before .cell-of .ensures,
-      sym (c .before .is-zero-cell .ensures) ∙ c .if2 .left,
+      sym (c .before .is-number .ensures) ∙ c .if2 .left,
     )
 
 pub read-cells-spec : {M : Type 1} → statement M
@@ -65,7 +65,7 @@ read-cells-spec =
     returns
     slice-aggregate-cell-of
     cell-of-requires
-    is-zero-cell-requires
+    is-number-requires
     slice-aggregate-cell-of-2
     cell-of-requires-2
     cells-for-requires

@@ -1,8 +1,8 @@
 -- `has_cells` meets its contract: the length is compared first, then the range with the pool. Assumes nothing.
 use borrow.Author.Tests.{eq-eqb, ne-eqb}
 use borrow.Author.Needs.{needs}
-use Rattle.cpus.proofs.value.has_cells.Statement.{statement}
-use Rattle.cpus.proofs.value.has_cells.Tie as tie
+use Rattle.cpus.proofs.property.has_cells.Statement.{statement}
+use Rattle.cpus.proofs.property.has_cells.Tie as tie
 
 size-of-requires : tie.Need-size-of-requires
 size-of-requires c κs = search needs

@@ -1,8 +1,8 @@
 -- `cells_at` meets its contract. Assumes nothing.
 use borrow.Author.Needs.{needs}
 use native.Mathlib.Omega.{arith}
-use Rattle.cpus.proofs.value.cells_at.Statement.{statement}
-use Rattle.cpus.proofs.value.cells_at.Tie as tie
+use Rattle.cpus.proofs.property.cells_at.Statement.{statement}
+use Rattle.cpus.proofs.property.cells_at.Tie as tie
 
 cell-at-requires : tie.Need-cell-at-requires
 cell-at-requires c κs = search needs
