@@ -1,16 +1,12 @@
 -- The faults of a board, layer by layer. Assumes nothing.
-use mathlib.Core.Path.{_≡_, refl, sym, _∙_}
-use mathlib.Core.Bool.{Bool, true, false, cond}
+use mathlib.Core.Path.{_≡_, sym, _∙_}
 use Prim.Native.Nat.{ℕ, _≤_}
-use native.Mathlib.Omega.{arith}
-use lib.Dec.{eqb, ltb}
-use borrow.Author.Tests.{ltb-false}
 use Rattle.laws.specs.Fault.{told, orElse}
 use Rattle.laws.proofs.OrElseLaws.{told-number, or-clear, or-assoc}
 use Rattle.tables.specs.Board.{Board}
 use Rattle.wellformed.specs.Check.{tableFault}
-use Rattle.cpus.specs.Rules.{maxCpus}
 use Rattle.cpus.specs.Check.{cpuCount, cpuList, countFault, rootFault, cpusFault, phandlesFault}
+use Rattle.cpus.proofs.CpuMeans.{count-fits}
 use Rattle.topology.specs.Find.{mapFault}
 use Rattle.leaves.specs.Scan.{leavesFault, treeOf}
 use Rattle.board.specs.Survey.{surveyFault}
@@ -32,12 +28,4 @@ pub few-cpus : (b : Board) → cpusFault b .number ≡ 0 → cpuCount b ≤ 256
 unfolding cpusFault
 few-cpus b z =
     let later = or-clear (told (rootFault b) 0) _ z .1 in
-    few (cpuCount b) (sym (told-number (countFault (cpuCount b)) 0) ∙ or-clear (told (countFault (cpuCount b)) 0) _ later .0)
-  where
-    few : (n : ℕ) → countFault n ≡ 0 → n ≤ 256
-    few n = go (eqb n 0) refl (ltb maxCpus n) refl
-      where
-        go : (t : Bool) → eqb n 0 ≡ t → (d : Bool) → ltb maxCpus n ≡ d → _≡_ {A = ℕ} (cond t 10 (cond d 10 0)) 0 → n ≤ 256
-        go true e d g h = absurd (omega arith)
-        go false e true g h = absurd (omega arith)
-        go false e false g h = ltb-false maxCpus n g
+    count-fits (cpuCount b) (sym (told-number (countFault (cpuCount b)) 0) ∙ or-clear (told (countFault (cpuCount b)) 0) _ later .0)

@@ -19,11 +19,10 @@ use Rattle.keys.specs.declared.Key.the-variants.{Cpu}
 use Rattle.keys.specs.Key.{keyName}
 use Rattle.keys.specs.Index.{keysOf, keyAt}
 use Rattle.keys.proofs.IndexLaws.{index-finds}
-use Rattle.cpus.specs.declared.Cell.{Cell}
 use Rattle.cpus.specs.declared.Reading.{Reading}
 use Rattle.cpus.specs.declared.Wanted.{Wanted}
 use Rattle.cpus.specs.Rules.{maxCpus}
-use Rattle.cpus.specs.Check.{rootFault, addressCells, cpuCount, cpuList, countFault, phandleReadings, cpuFault, cpusFault, phandlesFault, phandleList, mpidrList}
+use Rattle.cpus.specs.Check.{rootFault, cpuCount, cpuList, countFault, phandleReadings, cpuFault, cpusFault, phandlesFault, phandleList, mpidrList}
 use Rattle.cpus.specs.Gather.{readingAt, readingOf, firstRecord, numbersOver}
 use Rattle.cpus.proofs.CpuMeans.{cpu-count}
 use Rattle.cpus.proofs.ScanLaws.{same-reading, numbers-clear}

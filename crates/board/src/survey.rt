@@ -1,6 +1,7 @@
 // Rules 1 to 26, and what the rows are made of: the cpu records, their MPIDRs, the leaves and the cpus that they name.
 use crate::Surveyed;
 use cpus::MAX_CPUS;
+use cpus::RootCells;
 use cpus::Wanted;
 use keys::KEY_WORDS;
 use laws::BAD_CPUS_NODE;
@@ -41,10 +42,9 @@ pub fn survey(
     if fault.number != 0 {
         return stop(fault.number, fault.place);
     }
-    let cells = cpus::read_cells(width, nodes, props, pool);
-    if cells == 0 {
+    let RootCells::Are(cells) = cpus::read_cells(width, nodes, props, pool) else {
         return stop(BAD_CPUS_NODE, 0);
-    }
+    };
     let count = cpus::list_cpus(nodes, pool, cpus);
     let number = cpus::count_fault(count);
     if number != 0 {

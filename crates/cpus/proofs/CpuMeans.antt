@@ -1,25 +1,27 @@
 -- What the tests of cpu records say, and the list of them. Assumes nothing.
-use mathlib.Core.Path.{_≡_, sym, ap, _∙_}
-use mathlib.Core.Bool.{false, cond}
+use mathlib.Core.Path.{_≡_, refl, sym, ap, _∙_}
+use mathlib.Core.Bool.{Bool, true, false, cond}
 use mathlib.Core.Logic.{_⊎_, ⊎-elim}
 use mathlib.Core.List.{List, _++_}
 use Prim.Native.Nat.{ℕ, _+_, _-_, _≤_}
 use native.Mathlib.Omega.{arith}
-use lib.Dec.{ltb}
+use lib.Dec.{eqb, ltb}
 use lib.ListN.{length, take, drop, length-take, length-append}
 use lib.Seq.{take-take, take-add, take-append-seam}
+use borrow.Author.Tests.{ltb-false}
 use Rattle.laws.specs.Listing.{Listing}
 use Rattle.laws.proofs.SearchLaws.{lt-or-le, list-length}
 use Rattle.laws.proofs.ListingLaws.{listed}
-use Rattle.laws.proofs.DecideLaws.{Decides, decides-as, lt-decides, then-decides, either-decides, without-decides}
-use Rattle.tables.specs.Board.{Board, Inside, rangeIs, nodeCount, nodeName, nameOffset, nameLength}
+use Rattle.laws.proofs.DecideLaws.{Decides, decides-not, decides-as, eq-decides, lt-decides, then-decides, both-decides, either-decides, without-decides}
+use Rattle.tables.specs.Board.{Board, Inside, range, rangeIs, nodeCount, nodeName, parentWord, nameOffset, nameLength}
 use Rattle.tables.specs.Tree.{Child}
 use Rattle.wellformed.specs.Rules.{WellFormed}
 use Rattle.tables.proofs.DecideLaws.{child-test, range-decides, range-test}
 use Rattle.wellformed.proofs.WellFormedLaws.{wf-name}
 use Rattle.cpus.specs.Words.{cpuWord, cpuUnit}
 use Rattle.cpus.specs.Node.{Begins, Cpu}
-use Rattle.cpus.specs.Check.{isCpuName, isCpu, cpuCount, cpuList}
+use Rattle.cpus.specs.Rules.{maxCpus}
+use Rattle.cpus.specs.Check.{isCpuName, isCpu, cpuCount, countFault, cpuList}
 
 -- a range of the pool begins with given bytes where its first part is these bytes
 module _ (l start : List ℕ) (len : ℕ) where
@@ -69,3 +71,12 @@ module _ {b : Board} (well : WellFormed b) where
 
 pub cpu-count : (b : Board) → cpuCount b ≡ length (cpuList b)
 cpu-count b = sym (list-length (isCpu (b .nodes) (b .pool)) (nodeCount (b .nodes)))
+
+-- a number of cpu records that rule 10 allows
+pub count-fits : (n : ℕ) → countFault n ≡ 0 → n ≤ maxCpus
+count-fits n = go (eqb n 0) (ltb maxCpus n) refl
+  where
+    go : (a d : Bool) → ltb maxCpus n ≡ d → _≡_ {A = ℕ} (cond a 10 (cond d 10 0)) 0 → n ≤ maxCpus
+    go true d q h = absurd (omega arith)
+    go false true q h = absurd (omega arith)
+    go false false q h = ltb-false maxCpus n q

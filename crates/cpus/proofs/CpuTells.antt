@@ -1,8 +1,6 @@
 -- The checks of rules 9 to 13 and of rule 17 tell the first of them that is broken. Assumes nothing.
 use mathlib.Core.Path.{_≡_, refl, sym, ap, subst, _∙_}
-use mathlib.Core.Bool.{Bool, true, false, cond}
 use mathlib.Core.Logic.{⊎-elim}
-use mathlib.Core.List.{List}
 use Prim.Native.Nat.{ℕ, _≤_, _<_}
 use native.Mathlib.Omega.{arith}
 use Rattle.laws.specs.declared.Fault.{Fault}
@@ -14,11 +12,11 @@ use Rattle.laws.proofs.DecideLaws.{eq-decides, holds-unless}
 use Rattle.tables.specs.Board.{Board, Typed, nodeCount}
 use Rattle.wellformed.specs.Order.{stage}
 use Rattle.wellformed.specs.Rules.{WellFormed}
-use Rattle.cpus.specs.Node.{Cpu, AddressCells}
+use Rattle.cpus.specs.Node.{Cpu}
 use Rattle.cpus.specs.Rules.{CpuRule, SoundCpus}
-use Rattle.cpus.specs.Check.{isCpu, addressCells, rootFault, cpuCount, countFault, mpidrReadings, phandleReadings, cpuFault, cpusFault, phandlesFault}
+use Rattle.cpus.specs.Check.{isCpu, rootFault, cpuCount, countFault, mpidrReadings, phandleReadings, cpuFault, cpusFault, phandlesFault}
 use Rattle.cpus.proofs.ScanLaws.{first-gathered}
-use Rattle.cpus.proofs.RegMeans.{value-reg}
+use Rattle.cpus.proofs.RegMeans.{CellsRead, value-reg}
 use Rattle.cpus.proofs.FaultMeans.{Verdict, Root, CpuSays, OwnPhandle, cpuFaultAt, phandleFaultAt, root-told, count-told, cpu-says, phandle-told}
 use Rattle.cpus.proofs.RuleMeans.{staged, at-seven, at-eight, at-nine, at-twelve, early}
 
@@ -57,7 +55,7 @@ module _ {b : Board} (typed : Typed b) (well : WellFormed b) (R : ℕ → ℕ �
         once (count-told typed well) (λ z. omega arith) (omega arith) refl
         (λ m q r e. at-eight well (staged well (back m q r (omega arith) (omega arith))) e)
 
-    cpu-stage : AddressCells b (addressCells b) → Stage stage R 9 (nodeCount (b .nodes)) (cpuFaultAt b)
+    cpu-stage : CellsRead b → Stage stage R 9 (nodeCount (b .nodes)) (cpuFaultAt b)
     cpu-stage a =
         record {
           inside = λ m q r e. at m q r e .0 .child .inside;
@@ -99,7 +97,7 @@ module _ {b : Board} (typed : Typed b) (well : WellFormed b) (R : ℕ → ℕ �
         third : Fault
         third = cpuFault b
 
-        cells : (R 9 0 → ⊥) → {v : ℕ} → Verdict b 9 0 (Root b) v → AddressCells b (addressCells b)
+        cells : (R 9 0 → ⊥) → {v : ℕ} → Verdict b 9 0 (Root b) v → CellsRead b
         cells none (Verdict.sound r) = r .cells
         cells none (Verdict.broken r) = absurd (none (into 9 0 r (omega arith)))
 

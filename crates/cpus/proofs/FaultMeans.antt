@@ -1,33 +1,33 @@
 -- What the checks of rules 9 to 13 and 17 answer of one place: what the board then has, or the rule that it breaks. Assumes nothing.
-use mathlib.Core.Path.{_≡_, refl, sym, ap, ap₂, _∙_}
+use mathlib.Core.Path.{_≡_, refl, sym, ap₂, _∙_}
 use mathlib.Core.Bool.{Bool, true, false, cond}
-use mathlib.Core.Logic.{⊎-elim}
 use Prim.Native.Nat.{ℕ, _≤_, _<_}
 use native.Mathlib.Omega.{arith}
 use lib.Dec.{eqb, ltb}
 use borrow.Author.Tests.{eqb-true, eqb-false, ltb-true, ltb-false}
-use Rattle.laws.proofs.SearchLaws.{true-false}
 use Rattle.laws.proofs.DecideLaws.{Decides, decides-not, decides-as, eq-decides}
 use Rattle.tables.specs.Board.{Board, Typed, rangeIs, nodeName, nameOffset, nameLength}
-use Rattle.tables.specs.Property.{HasValue, cellBytes}
+use Rattle.tables.specs.Property.{HasValue}
 use Rattle.wellformed.specs.Rules.{WellFormed}
 use Rattle.wellformed.proofs.WellFormedLaws.{wf-nodes, wf-name}
-use Rattle.tables.proofs.CellLaws.{cell-bytes-apart}
-use Rattle.cpus.specs.declared.Cell.{Cell}
-use Rattle.cpus.specs.declared.Cell.the-variants as cell
+use Rattle.cpus.specs.declared.Cells.{Cells}
+use Rattle.cpus.specs.declared.RootCells.{RootCells}
+use Rattle.cpus.specs.declared.RootCells.the-variants.{Broken}
 use Rattle.keys.specs.Key.{deviceTypeKey}
 use Rattle.cpus.specs.Words.{cpusWord, cpuString, sizeCellsKey}
 use Rattle.cpus.specs.Node.{Cpu, AddressCells, SizeCells, Reg, mpidr, Phandle}
 use Rattle.cpus.specs.Rules.{maxCpus, CpuRule}
-use Rattle.cpus.specs.Cell.{cellOf}
+use Rattle.cpus.specs.Cell.{cellOf, isNumber}
 use Rattle.cpus.specs.declared.Reading.{Reading}
 use Rattle.cpus.specs.Gather.{unlessSeen}
-use Rattle.cpus.specs.Check.{isCpu, addressCells, isZeroCell, rootFault, cpuCount, cpuList, countFault, mpidrReadings, phandleReadings}
+use Rattle.cpus.specs.Check.{soundCells, rootNumber, rootFault, cellsOf, regCells}
+use Rattle.cpus.specs.Check.{isCpu, cpuCount, cpuList, countFault, mpidrReadings, phandleReadings}
 use Rattle.cpus.proofs.ScanLaws.{gatherFault, seen-decides}
 use Rattle.tables.proofs.DecideLaws.{range-test}
 use Rattle.cpus.proofs.CpuMeans.{cpu-test, cpu-listing, cpu-count}
-use Rattle.cpus.proofs.ValueMeans.{value-unique, CellSays, cell-says}
-use Rattle.cpus.proofs.RegMeans.{cells-cases, cells-test, test-cells, reg-bounds, reg-unique, MpidrSays, mpidr-says, mpidr-read, PhandleSays, phandle-says, phandle-read, phandle-unique}
+use Rattle.cpus.proofs.ValueMeans.{number-test}
+use Rattle.cpus.proofs.RegMeans.{countOf, CellsRead, CellsSay, cells-say, reg-bounds, reg-unique, MpidrSays, mpidr-says, mpidr-read}
+use Rattle.cpus.proofs.RegMeans.{PhandleSays, phandle-says, phandle-read, phandle-unique}
 use Rattle.cpus.proofs.PairMeans.{mpidr-apart}
 
 -- the number told of rule n at a place: 0 where P holds, and n where the rule is broken
@@ -36,10 +36,13 @@ pub data Verdict (b : Board) (n p : ℕ) (P : Type 0) : ℕ → Type 0 where
   broken : CpuRule b n p → Verdict b n p P n
 
 -- rule 9
-pub record Root (b : Board) : Type 0 where
+pub record RootAt (b : Board) (c : Cells) : Type 0 where
   pub name : nodeName b 0 ≡ cpusWord
-  pub cells : AddressCells b (addressCells b)
+  pub cells : AddressCells b (countOf c)
   pub size : SizeCells b
+
+abbrev pub Root : Board → Type 0
+Root b = RootAt b (regCells b)
 
 -- rule 10
 abbrev pub CountRange : Board → Type 0
@@ -65,40 +68,28 @@ abbrev pub phandleFaultAt : Board → ℕ → ℕ
 phandleFaultAt b = gatherFault (isCpu (b .nodes) (b .pool)) (phandleReadings b) 17
 
 module _ {b : Board} (typed : Typed b) (well : WellFormed b) where
-  no-cells : addressCells b ≡ 0 → (n : ℕ) → AddressCells b n → ⊥
-  no-cells z n a = let e = test-cells typed well a in ⊎-elim (λ q. omega arith) (λ t. omega (arith, t .0)) (cells-cases (a .allowed))
-
-  size-test : Decides (isZeroCell (cellOf (b .props) (b .pool) 0 sizeCellsKey)) (SizeCells b)
-  size-test = go (cell-says typed well 0 sizeCellsKey)
-    where
-      go : {c : Cell} → CellSays b 0 sizeCellsKey c → Decides (isZeroCell c) (SizeCells b)
-      go (CellSays.cell {w = w} h lt) = decides-as (eq-decides w 0) (λ e. rw e at h) (λ s. cell-bytes-apart w 0 lt (omega arith) (value-unique well h s))
-      go (CellSays.none n) = (λ e. true-false e refl, λ s. absurd (n (cellBytes 0) s refl))
-
   pub root-told : Verdict b 9 0 (Root b) (rootFault b)
-  unfolding rootFault
+  unfolding soundCells
   root-told =
       go
       (rangeIs (b .pool) (nameOffset (b .nodes) 0) (nameLength (b .nodes) 0) cpusWord)
       (range-test (b .pool) (nameOffset (b .nodes) 0) (nameLength (b .nodes) 0) cpusWord (wf-name well 0 (wf-nodes well .0) .inside))
-      (eqb (addressCells b) 0)
-      refl
-      (isZeroCell (cellOf (b .props) (b .pool) 0 sizeCellsKey))
-      size-test
+      (isNumber (cellOf (b .props) (b .pool) 0 sizeCellsKey) 0)
+      (number-test typed well 0 sizeCellsKey 0 (omega arith))
+      (cells-say typed well)
     where
       go :
           (t : Bool) →
           Decides t (nodeName b 0 ≡ cpusWord) →
           (s : Bool) →
-          eqb (addressCells b) 0 ≡ s →
-          (r : Bool) →
-          Decides r (SizeCells b) →
-          Verdict b 9 0 (Root b) (cond t (cond s 9 (cond r 0 9)) 9)
-      go false name s e r size = Verdict.broken (CpuRule.notCpus (decides-not name .0 refl))
-      go true name true e r size = Verdict.broken (CpuRule.addressCells (no-cells (eqb-true (addressCells b) 0 e)))
-      go true name false e false size = Verdict.broken (CpuRule.sizeCells (decides-not size .0 refl))
-      go true name false e true size =
-          Verdict.sound (record { name = name .0 refl; cells = cells-test typed well refl (eqb-false (addressCells b) 0 e); size = size .0 refl })
+          Decides s (SizeCells b) →
+          {r : RootCells} →
+          CellsSay b r →
+          Verdict b 9 0 (RootAt b (cellsOf (cond t (cond s r Broken) Broken))) (rootNumber (cond t (cond s r Broken) Broken))
+      go false name s size say = Verdict.broken (CpuRule.notCpus (decides-not name .0 refl))
+      go true name false size say = Verdict.broken (CpuRule.sizeCells (decides-not size .0 refl))
+      go true name true size (CellsSay.none f) = Verdict.broken (CpuRule.addressCells f)
+      go true name true size (CellsSay.cells a) = Verdict.sound (record { name = name .0 refl; cells = a; size = size .0 refl })
 
   pub count-told : Verdict b 10 0 (CountRange b) (countFault (cpuCount b))
   count-told = go (eqb (cpuCount b) 0) refl (ltb maxCpus (cpuCount b)) refl
@@ -115,7 +106,13 @@ module _ {b : Board} (typed : Typed b) (well : WellFormed b) where
           Verdict.sound (omega arith, ltb-false maxCpus (cpuCount b) f)
 
   -- of two sound readings: the same number, the same `reg`
-  same-reg : AddressCells b (addressCells b) → {i j u l : ℕ} → Reg b i u l → mpidrReadings b i .number ≡ 0 → mpidrReadings b j .number ≡ 0 → Decides (eqb (mpidrReadings b j .value) (mpidrReadings b i .value)) (Reg b j u l)
+  same-reg :
+      CellsRead b →
+      {i j u l : ℕ} →
+      Reg b i u l →
+      mpidrReadings b i .number ≡ 0 →
+      mpidrReadings b j .number ≡ 0 →
+      Decides (eqb (mpidrReadings b j .value) (mpidrReadings b i .value)) (Reg b j u l)
   same-reg a {i} {j} {u} {l} r zi zj =
       let s = mpidr-read typed well i a zi in
       let t = mpidr-read typed well j a zj in
@@ -128,7 +125,7 @@ module _ {b : Board} (typed : Typed b) (well : WellFormed b) where
       rw (← own .0, ← own .1, ← p .0, ← p .1) (t .2))
       (λ q. let other = reg-unique well (t .2) q in t .3 ∙ ap₂ mpidr (other .0) (other .1) ∙ sym (s .3 ∙ ap₂ mpidr (own .0) (own .1)))
 
-  pub cpu-says : AddressCells b (addressCells b) → (i : ℕ) → ((j : ℕ) → j < i → cpuFaultAt b j ≡ 0) → CpuSays b i (cpuFaultAt b i)
+  pub cpu-says : CellsRead b → (i : ℕ) → ((j : ℕ) → j < i → cpuFaultAt b j ≡ 0) → CpuSays b i (cpuFaultAt b i)
   unfolding gatherFault
   cpu-says a i none =
       go (isCpu (b .nodes) (b .pool) i) (cpu-test well i) (mpidr-says typed well i a) _

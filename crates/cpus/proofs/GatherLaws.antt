@@ -2,12 +2,12 @@
 use mathlib.Core.Path.{_≡_, refl, sym, ap, ap₂, _∙_}
 use mathlib.Core.Bool.{Bool, true, false, cond}
 use mathlib.Core.List.{List, [], _∷_, _++_, map, map-append}
-use Prim.Native.Nat.{ℕ, _+_, _≤_, _<_}
+use Prim.Native.Nat.{ℕ, _+_, _≤_, _<_, min}
 use native.Mathlib.Numerals.{add-one}
 use native.Mathlib.Omega.{arith}
 use lib.Dec.{eqb}
-use lib.ListN.{length, getD, take, set, length-map}
-use lib.Seq.{length-take-le, take-suc}
+use lib.ListN.{length, getD, take, set, length-map, length-take}
+use lib.Seq.{length-take-le, take-suc, getD-take}
 use borrow.Author.Tests.{ne-eqb}
 use Rattle.laws.specs.declared.Fault.{Fault}
 use Rattle.laws.specs.Fault.{clear, firstFault}
@@ -28,68 +28,89 @@ unless-value rule seen q = go (eqb (q .number) 0) seen
     go false b = refl
 
 module _ (r : ℕ → Reading) (rule : ℕ) (records before : List ℕ) where
-  -- the numbers of the first k records
+  -- the records that there is room for
+  abbrev cut : List ℕ
+  cut = take (length before) records
+
+  -- the numbers of the first k of them
   abbrev numbers : ℕ → List ℕ
-  numbers k = map (λ i. r i .value) (take k records)
+  numbers k = map (λ i. r i .value) (take k cut)
 
-  numbers-length : (k : ℕ) → k ≤ length records → length (numbers k) ≡ k
-  numbers-length k le = length-map (take k records) (λ i. r i .value) ∙ length-take-le k records le
+  numbers-length : (k : ℕ) → k ≤ length cut → length (numbers k) ≡ k
+  numbers-length k le = length-map (take k cut) (λ i. r i .value) ∙ length-take-le k cut le
 
-  numbers-more : (k : ℕ) → k < length records → numbers k ++ (r (getD records k 0) .value ∷ []) ≡ numbers (k + 1)
+  numbers-more : (k : ℕ) → k < length cut → numbers k ++ (r (getD cut k 0) .value ∷ []) ≡ numbers (k + 1)
   numbers-more k lt =
       sym (ap (λ (n : ℕ). numbers n) (add-one k)
-      ∙ ap (map (λ i. r i .value)) (take-suc records k 0 lt)
-      ∙ map-append (λ i. r i .value) (take k records) (getD records k 0 ∷ []))
+      ∙ ap (map (λ i. r i .value)) (take-suc cut k 0 lt)
+      ∙ map-append (λ i. r i .value) (take k cut) (getD cut k 0 ∷ []))
 
   -- what holds before the record at index k
   pub record Pass (k : ℕ) (values : List ℕ) : Type 0 where
-    pub none : firstFault (listedFault r rule records) k ≡ clear
+    pub within : k ≤ length cut
+    pub none : firstFault (listedFault r rule cut) k ≡ clear
     pub held : values ≡ over (numbers k) before
 
   pub pass-start : Pass 0 before
   unfolding firstFault
-  pass-start = record { none = refl; held = sym (over-none before) }
+  pass-start = record { within = omega arith; none = refl; held = sym (over-none before) }
 
   pub pass-length : {k : ℕ} {values : List ℕ} → Pass k values → length values ≡ length before
   pass-length h = ap length (h .held) ∙ over-length _ before
 
   -- what the end of the pass tells
   abbrev Told : Fault → List ℕ → Type 0
-  Told fault values = (fault ≡ firstRecord r rule records) × (values ≡ numbersOver r rule records before)
+  Told fault values = (fault ≡ firstRecord r rule cut) × (values ≡ numbersOver r rule cut before)
 
-  told-index : {fault : Fault} {k : ℕ} {values : List ℕ} → fault ≡ firstIndex r rule records → passedOf records fault ≡ k → Pass k values → Told (toldOf records fault) values
+  told-index :
+      {fault : Fault} {k : ℕ} {values : List ℕ} →
+      fault ≡ firstIndex r rule cut →
+      passedOf cut fault ≡ k →
+      Pass k values →
+      Told (toldOf cut fault) values
   unfolding firstRecord numbersOver
-  told-index e p h = (ap (toldOf records) e, h .held ∙ ap (λ (n : ℕ). over (numbers n) before) (sym p ∙ ap (passedOf records) e))
+  told-index e p h = (ap (toldOf cut) e, h .held ∙ ap (λ (n : ℕ). over (numbers n) before) (sym p ∙ ap (passedOf cut) e))
 
   -- the record at index k, and the reading x that is made of the numbers gathered
   module _ (k : ℕ) {values : List ℕ} {x : Reading}
-      (h : Pass k values) (inside : k < length records) (room : length records ≤ length before)
+      (h : Pass k values) (inside : k < length records) (room : k < length values)
       (made : x ≡ unlessSeen rule (isAmong (take k values) (r (getD records k 0) .value)) (r (getD records k 0))) where
+    fits : (k < length cut) × (k < length before)
+    fits = omega (arith, length-take (length before) records, pass-length h)
+
+    at : getD cut k 0 ≡ getD records k 0
+    at = getD-take (length before) records k 0 (fits .1)
+
     front : take k values ≡ numbers k
     front =
-        let long = numbers-length k (omega arith) in
-        ap (take k) (h .held) ∙ ap (λ (n : ℕ). take n (over (numbers k) before)) (sym long) ∙ over-front (numbers k) before (omega arith)
+        let long = numbers-length k (omega (arith, fits)) in
+        ap (take k) (h .held) ∙ ap (λ (n : ℕ). take n (over (numbers k) before)) (sym long) ∙ over-front (numbers k) before (omega (arith, fits))
 
-    pass-fault : x .number ≡ listedFault r rule records k
+    pass-fault : x .number ≡ listedFault r rule cut k
     unfolding listedFault
-    pass-fault = ap (λ (q : Reading). q .number) made ∙ rw front
+    pass-fault = ap (λ (q : Reading). q .number) made ∙ rw (front, ← at)
 
     pub pass-next : x .number ≡ 0 → Pass (k + 1) (set values k (x .value))
     pass-next z =
-        let value : x .value ≡ r (getD records k 0) .value =
-        ap (λ (q : Reading). q .value) made ∙ unless-value rule (isAmong (take k values) (r (getD records k 0) .value)) (r (getD records k 0)) in
+        let value : x .value ≡ r (getD cut k 0) .value =
+        ap (λ (q : Reading). q .value) made
+        ∙ unless-value rule (isAmong (take k values) (r (getD records k 0) .value)) (r (getD records k 0))
+        ∙ ap (λ (i : ℕ). r i .value) (sym at) in
         record {
+          within = omega (arith, fits);
           none = clear-more _ k (h .none) pass-fault z;
           held =
               ap₂ (λ (l : List ℕ) (v : ℕ). set l k v) (h .held) value
-              ∙ over-push (numbers k) before _ k (numbers-length k (omega arith)) (omega arith)
-              ∙ ap (λ (l : List ℕ). over l before) (numbers-more k inside);
+              ∙ over-push (numbers k) before _ k (numbers-length k (omega (arith, fits))) (fits .1)
+              ∙ ap (λ (l : List ℕ). over l before) (numbers-more k (fits .0));
         }
 
     pub pass-told : (x .number ≡ 0 → ⊥) → Told (record { number = x .number; place = getD records k 0 }) values
     pass-told ne =
-        rw (← told-at (x .number) (getD records k 0) ne)
-        (told-index (at-fault (listedFault r rule records) k (length records) inside (h .none) pass-fault ne) (rw (ne-eqb (x .number) 0 ne)) h)
+        rw (← at, ← told-at (x .number) (getD cut k 0) ne)
+        (told-index (at-fault (listedFault r rule cut) k (length cut) (fits .0) (h .none) pass-fault ne) (rw (ne-eqb (x .number) 0 ne)) h)
 
-  pub pass-end : (k : ℕ) {values : List ℕ} → Pass k values → k ≡ length records → Told clear values
-  pass-end k h e = told-index (at-end (listedFault r rule records) k (length records) e (h .none)) (sym e) h
+  pub pass-end : (k : ℕ) {values : List ℕ} → Pass k values → min (length before) (length records) ≤ k → Told clear values
+  pass-end k h le =
+      let e : k ≡ length cut = omega (arith, h .within, length-take (length before) records) in
+      told-index (at-end (listedFault r rule cut) k (length cut) e (h .none)) (sym e) h

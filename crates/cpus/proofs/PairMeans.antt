@@ -1,72 +1,72 @@
--- Two cells of the pool, one after the other, and an MPIDR of two cells. Assumes nothing.
-use mathlib.Core.Path.{_≡_, sym, ap, ap₂, _∙_}
+-- Numbers of one cell and of two: their bytes, and an MPIDR of two cells. Assumes nothing.
+use mathlib.Core.Path.{_≡_, refl, ap, ap₂, _∙_}
 use mathlib.Core.Bool.{true}
 use mathlib.Core.List.{List, _++_}
 use Prim.Native.Nat.{ℕ, _+_, _/_, _%_, _^_, _≤_, _<_}
 use native.Mathlib.Omega.{arith}
 use lib.ListN.{length, getD, take, drop}
-use lib.Seq.{take-add, drop-drop, take-at, drop-at}
+use lib.Seq.{take-add, drop-drop}
 use Rattle.laws.proofs.DecideLaws.{Decides, eq-decides, both-decides}
 use Rattle.affinity.specs.Level.{isAffine}
 use Rattle.tables.specs.Board.{range}
 use Rattle.tables.specs.Property.{cellBytes, cellAt}
-use Rattle.tables.proofs.CellLaws.{cell-bytes, cell-back}
+use Rattle.tables.proofs.CellLaws.{cell-bytes, cell-bytes-apart, cell-lt}
+use Rattle.cpus.specs.declared.Cells.{Cells}
+use Rattle.cpus.specs.declared.Cells.the-variants.{One, Two}
 use Rattle.cpus.specs.Node.{mpidr}
-use Rattle.cpus.proofs.ValueMeans.{range-length}
+use Rattle.cpus.specs.Cell.{sizeOf, cellsAt}
 
-module _ (pool : List ℕ) (at : ℕ) (inside : at + 8 ≤ length pool) where
-  first-inside : at + 4 ≤ length pool
-  first-inside = omega arith
+-- the numbers of one cell, or of two, and their bytes: of two, the upper cell and the lower
+abbrev pub limit : Cells → ℕ
+limit One = 2 ^ 32
+limit Two = 2 ^ 64
 
-  second-inside : at + 4 + 4 ≤ length pool
-  second-inside = omega arith
+abbrev pub valueBytes : Cells → ℕ → List ℕ
+valueBytes One n = cellBytes n
+valueBytes Two n = cellBytes (n / 2 ^ 32) ++ cellBytes (n % 2 ^ 32)
 
-  split : range pool at 8 ≡ range pool at 4 ++ range pool (at + 4) 4
-  split = take-add 4 4 (drop at pool) ∙ ap (λ (s : List ℕ). range pool at 4 ++ take 4 s) (drop-drop 4 at pool)
+pub bytes-length : (c : Cells) (n : ℕ) → length (valueBytes c n) ≡ sizeOf c
+bytes-length One n = refl
+bytes-length Two n = refl
 
-  -- the bytes that stand there are those of the two cells read
-  pub pair-bytes : ((i : ℕ) → getD pool i 0 < 256) → range pool at 8 ≡ cellBytes (cellAt pool at) ++ cellBytes (cellAt pool (at + 4))
-  pair-bytes byte = split ∙ ap₂ (λ (a b : List ℕ). a ++ b) (cell-bytes pool at first-inside byte) (cell-bytes pool (at + 4) second-inside byte)
+-- different numbers have different bytes
+pub bytes-apart : (c : Cells) (m n : ℕ) → m < limit c → n < limit c → valueBytes c m ≡ valueBytes c n → m ≡ n
+bytes-apart One m n hm hn e = cell-bytes-apart m n hm hn e
+bytes-apart Two m n hm hn e =
+    let upper = cell-bytes-apart (m / 2 ^ 32) (n / 2 ^ 32) (omega arith) (omega arith) (ap (take 4) e) in
+    let lower = cell-bytes-apart (m % 2 ^ 32) (n % 2 ^ 32) (omega arith) (omega arith) (ap (drop 4) e) in
+    omega arith
 
-  -- two cells below 2 ^ 32 whose bytes stand there are those read
-  pub pair-back : (u l : ℕ) → u < 2 ^ 32 → l < 2 ^ 32 → range pool at 8 ≡ cellBytes u ++ cellBytes l → (cellAt pool at ≡ u) × (cellAt pool (at + 4) ≡ l)
-  pair-back u l hu hl e = (
-    cell-back pool at first-inside u hu (sym (take-at first second 4 size) ∙ ap (take 4) whole),
-    cell-back pool (at + 4) second-inside l hl (sym (drop-at first second 4 size) ∙ ap (drop 4) whole),
-  )
-    where
-      first : List ℕ
-      first = range pool at 4
+-- the cells that stand in the pool
+module _ (pool : List ℕ) (at : ℕ) (byte : (i : ℕ) → getD pool i 0 < 256) where
+  pub cells-lt : (c : Cells) → cellsAt pool c at < limit c
+  cells-lt One = cell-lt pool at byte
+  cells-lt Two = omega (arith, cell-lt pool at byte, cell-lt pool (at + 4) byte)
 
-      second : List ℕ
-      second = range pool (at + 4) 4
+  pub cells-bytes : (c : Cells) → at + sizeOf c ≤ length pool → range pool at (sizeOf c) ≡ valueBytes c (cellsAt pool c at)
+  cells-bytes One inside = cell-bytes pool at inside byte
+  cells-bytes Two inside =
+      let upper : cellAt pool at ≡ cellsAt pool Two at / 2 ^ 32 = omega (arith, cell-lt pool (at + 4) byte) in
+      let lower : cellAt pool (at + 4) ≡ cellsAt pool Two at % 2 ^ 32 = omega (arith, cell-lt pool (at + 4) byte) in
+      take-add 4 4 (drop at pool)
+      ∙ ap (λ (s : List ℕ). range pool at 4 ++ take 4 s) (drop-drop 4 at pool)
+      ∙ ap₂ (λ (a b : List ℕ). a ++ b)
+      (cell-bytes pool at (omega arith) byte ∙ ap cellBytes upper)
+      (cell-bytes pool (at + 4) (omega arith) byte ∙ ap cellBytes lower)
 
-      whole : first ++ second ≡ cellBytes u ++ cellBytes l
-      whole = sym split ∙ e
+-- affinity bits alone
+pub affine-decides : (m : ℕ) → Decides (isAffine m) ((m / 2 ^ 40 ≡ 0) × (m / 2 ^ 24 % 256 ≡ 0))
+unfolding isAffine
+affine-decides m = both-decides (eq-decides (m / 2 ^ 40) 0) (eq-decides (m / 2 ^ 24 % 256) 0)
 
-      size : length first ≡ 4
-      size = range-length pool at 4 first-inside
+-- an MPIDR of two cells
+module _ (u l : ℕ) (hu : u < 2 ^ 8) (hl : l < 2 ^ 24) where
+  pub parts-affine : isAffine (mpidr u l) ≡ true
+  parts-affine = affine-decides (mpidr u l) .1 (omega arith, omega arith)
 
-module _ (u l : ℕ) where
-  affine-decides : Decides (isAffine (mpidr u l)) ((mpidr u l / 2 ^ 40 ≡ 0) × (mpidr u l / 2 ^ 24 % 256 ≡ 0))
-  unfolding isAffine
-  affine-decides = both-decides (eq-decides (mpidr u l / 2 ^ 40) 0) (eq-decides (mpidr u l / 2 ^ 24 % 256) 0)
+  pub mpidr-parts : (mpidr u l / 2 ^ 32 ≡ u) × (mpidr u l % 2 ^ 32 ≡ l)
+  mpidr-parts = (omega arith, omega arith)
 
-  -- an MPIDR with affinity bits alone, by its two cells
-  pub affine-parts : u < 2 ^ 32 → l < 2 ^ 32 → isAffine (mpidr u l) ≡ true → (u < 2 ^ 8) × (l < 2 ^ 24)
-  affine-parts hu hl e =
-      let t = affine-decides .0 e in
-      let high = t .0 in
-      let gap = t .1 in
-      (omega arith, omega arith)
-
-  module _ (hu : u < 2 ^ 8) (hl : l < 2 ^ 24) where
-    pub parts-affine : isAffine (mpidr u l) ≡ true
-    parts-affine = affine-decides .1 (omega arith, omega arith)
-
-    pub mpidr-parts : (mpidr u l / 2 ^ 32 ≡ u) × (mpidr u l % 2 ^ 32 ≡ l)
-    mpidr-parts = (omega arith, omega arith)
-
-    -- different cells make different MPIDRs
-    pub mpidr-apart : (v m : ℕ) → v < 2 ^ 8 → m < 2 ^ 24 → mpidr u l ≡ mpidr v m → (u ≡ v) × (l ≡ m)
-    mpidr-apart v m hv hm e = (omega arith, omega arith)
+  -- different cells make different MPIDRs
+  pub mpidr-apart : (v m : ℕ) → v < 2 ^ 8 → m < 2 ^ 24 → mpidr u l ≡ mpidr v m → (u ≡ v) × (l ≡ m)
+  mpidr-apart v m hv hm e = (omega arith, omega arith)

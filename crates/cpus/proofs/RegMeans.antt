@@ -2,47 +2,55 @@
 use mathlib.Core.Path.{_≡_, refl, sym, ap, _∙_}
 use mathlib.Core.Bool.{Bool, true, false, cond}
 use mathlib.Core.Logic.{_⊎_, inl, inr, ⊎-elim}
-use mathlib.Core.List.{List, _++_}
-use Prim.Native.Nat.{ℕ, _+_, _*_, _^_, _≤_, _<_}
+use mathlib.Core.List.{List}
+use Prim.Native.Nat.{ℕ, _/_, _%_, _^_, _<_}
 use native.Mathlib.Omega.{arith}
 use lib.Dec.{eqb}
-use lib.ListN.{length}
 use borrow.Author.Tests.{eqb-true, eqb-false}
 use Rattle.laws.proofs.SearchLaws.{true-false}
 use Rattle.laws.proofs.DecideLaws.{Decides, decides-not}
 use Rattle.affinity.specs.Level.{Affine, isAffine}
 use Rattle.affinity.proofs.AffineLaws.{test-affine}
-use Rattle.tables.specs.Board.{Board, Typed, valueOffset, valueLength}
-use Rattle.tables.specs.Property.{Property, HasValue, cellBytes, cellAt}
+use Rattle.tables.specs.Board.{Board, Typed}
+use Rattle.tables.specs.Property.{HasValue, cellBytes}
 use Rattle.wellformed.specs.Rules.{WellFormed}
-use Rattle.tables.proofs.LookupLaws.{lookup-cases}
-use Rattle.tables.proofs.CellLaws.{cell-bytes, cell-back, cell-bytes-apart, cell-lt}
-use Rattle.cpus.specs.declared.Cell.{Cell}
-use Rattle.cpus.specs.declared.Cell.the-variants.{Is, Not}
-use Rattle.cpus.specs.declared.Mpidr.{Mpidr}
-use Rattle.cpus.specs.declared.Mpidr.the-variants as read
-use Rattle.keys.specs.Key.{regKey, phandleKey, deviceTypeKey}
-use Rattle.cpus.specs.Words.{cpuString, addressCellsKey}
-use Rattle.cpus.specs.Node.{CellsAllowed, AddressCells, Reg, mpidr, Phandle}
-use Rattle.cpus.specs.Cell.{valueSized, cellsAt, phandleIn, cellOf, hasValue, mpidrOf}
-use Rattle.cpus.specs.Check.{cellsFor, addressCells, mpidrReadings, phandleReadings}
-use Rattle.cpus.specs.Gather.{reading, mpidrReading, phandleReading, readingFrom, readingOf}
+use Rattle.tables.proofs.CellLaws.{cell-bytes-apart}
+use Rattle.cpus.specs.declared.Cells.{Cells}
+use Rattle.cpus.specs.declared.Cells.the-variants.{One, Two}
+use Rattle.cpus.specs.declared.RootCells.{RootCells}
+use Rattle.cpus.specs.declared.RootCells.the-variants.{Are, Broken}
+use Rattle.cpus.specs.declared.Value.{Value}
+use Rattle.cpus.specs.declared.Value.the-variants.{Is, Not}
 use Rattle.cpus.specs.declared.Reading.{Reading}
-use Rattle.cpus.proofs.ValueMeans.{sized-test, value-of, value-unique, value-sized, has-value-test, CellSays, cell-says}
-use Rattle.cpus.proofs.PairMeans.{pair-bytes, pair-back, affine-parts, parts-affine, mpidr-apart}
+use Rattle.keys.specs.Key.{regKey, phandleKey, deviceTypeKey}
+use Rattle.cpus.specs.Words.{cpuString, cpuCell, addressCellsKey}
+use Rattle.cpus.specs.Node.{CellsAllowed, AddressCells, Reg, mpidr, Phandle}
+use Rattle.cpus.specs.Cell.{affineOnly, phandleIn, cellOf}
+use Rattle.cpus.specs.Check.{cellsFor, addressCells, regCells, mpidrReadings, phandleReadings}
+use Rattle.cpus.specs.Gather.{reading, numberOr, readingFrom, readingOf}
+use Rattle.cpus.proofs.PairMeans.{limit, valueBytes, bytes-length, bytes-apart, affine-decides, parts-affine, mpidr-parts, mpidr-apart}
+use Rattle.cpus.proofs.ValueMeans.{value-unique, ValueSays, value-says, cell-says, number-test}
 
 -- one address cell, or on width 64 two
-pub cells-cases : {width n : ℕ} → CellsAllowed width n → (n ≡ 1) ⊎ ((n ≡ 2) × (width ≡ 64))
+cells-cases : {width n : ℕ} → CellsAllowed width n → (n ≡ 1) ⊎ ((n ≡ 2) × (width ≡ 64))
 cells-cases CellsAllowed.one = inl refl
 cells-cases CellsAllowed.two = inr (refl, refl)
 
-cells-lt : {width n : ℕ} → CellsAllowed width n → n < 2 ^ 32
-cells-lt c = ⊎-elim (λ e. omega arith) (λ t. omega (arith, t .0)) (cells-cases c)
+allowed-lt : {width n : ℕ} → CellsAllowed width n → n < 2 ^ 32
+allowed-lt c = ⊎-elim (λ e. omega arith) (λ t. omega (arith, t .0)) (cells-cases c)
 
--- what the number of address cells says of a board: 0 where there is none that is allowed
-pub data CellsSay (b : Board) : ℕ → Type 0 where
-  cells : {n : ℕ} → AddressCells b n → CellsSay b n
-  none : ((n : ℕ) → AddressCells b n → ⊥) → CellsSay b 0
+-- the number that `#address-cells` holds for one cell, and for two
+abbrev pub countOf : Cells → ℕ
+countOf One = 1
+countOf Two = 2
+
+abbrev pub CellsRead : Board → Type 0
+CellsRead b = AddressCells b (countOf (regCells b))
+
+-- what the address cells say of a board
+pub data CellsSay (b : Board) : RootCells → Type 0 where
+  cells : {c : Cells} → AddressCells b (countOf c) → CellsSay b (Are c)
+  none : ((n : ℕ) → AddressCells b n → ⊥) → CellsSay b Broken
 
 -- the two cells of a `reg` have affinity bits alone
 pub reg-bounds : {b : Board} {i u l : ℕ} → Reg b i u l → (u < 2 ^ 8) × (l < 2 ^ 24)
@@ -54,7 +62,7 @@ reg-affine {b} {i} {u} {l} r = let t = reg-bounds r in test-affine (mpidr u l) (
 
 module _ {b : Board} (well : WellFormed b) where
   pub cells-unique : {m n : ℕ} → AddressCells b m → AddressCells b n → m ≡ n
-  cells-unique {m} {n} a c = cell-bytes-apart m n (cells-lt (a .allowed)) (cells-lt (c .allowed)) (value-unique well (a .value) (c .value))
+  cells-unique {m} {n} a c = cell-bytes-apart m n (allowed-lt (a .allowed)) (allowed-lt (c .allowed)) (value-unique well (a .value) (c .value))
 
   not-both : {A : Type 0} → AddressCells b 1 → AddressCells b 2 → A
   not-both a c = let e = cells-unique a c in absurd (omega arith)
@@ -64,56 +72,56 @@ module _ {b : Board} (well : WellFormed b) where
   reg-value g h (Reg.oneCell a r lt) = Reg.oneCell a (rw (value-unique well g r) at h) lt
   reg-value g h (Reg.twoCells a r hu hl) = Reg.twoCells a (rw (value-unique well g r) at h) hu hl
 
+  -- a `reg` is a value of so many cells, its MPIDR
+  pub reg-number :
+      (c : Cells) →
+      AddressCells b (countOf c) →
+      {i u l : ℕ} →
+      Reg b i u l →
+      HasValue b i regKey (valueBytes c (mpidr u l)) × (mpidr u l < limit c)
+  reg-number One a (Reg.oneCell {lower = l} _ h lt) = let e : mpidr 0 l ≡ l = omega arith in (rw e h, omega arith)
+  reg-number One a (Reg.twoCells c h _ _) = not-both a c
+  reg-number Two a (Reg.oneCell c h _) = not-both c a
+  reg-number Two a (Reg.twoCells {upper = u} {lower = l} _ h hu hl) = let t = mpidr-parts u l hu hl in (rw (t .0, t .1) h, omega arith)
+
+  reg-cells : {i u l : ℕ} → Reg b i u l → (c : Cells) × AddressCells b (countOf c)
+  reg-cells (Reg.oneCell a h _) = (One, a)
+  reg-cells (Reg.twoCells a h _ _) = (Two, a)
+
   -- .. and the same `reg` is of the same bytes
   pub value-reg : {i j u l : ℕ} → Reg b i u l → Reg b j u l → (v : List ℕ) × HasValue b i regKey v × HasValue b j regKey v
-  value-reg r s = both r s refl refl
-    where
-      both : {i j u l x y : ℕ} → Reg b i u l → Reg b j x y → u ≡ x → l ≡ y → (v : List ℕ) × HasValue b i regKey v × HasValue b j regKey v
-      both {l = l} (Reg.oneCell a g _) (Reg.oneCell c h _) d e = (cellBytes l, g, rw e h)
-      both (Reg.oneCell a g _) (Reg.twoCells c h _ _) d e = not-both a c
-      both (Reg.twoCells a g _ _) (Reg.oneCell c h _) d e = not-both c a
-      both {u = u} {l = l} (Reg.twoCells a g _ _) (Reg.twoCells c h _ _) d e = (cellBytes u ++ cellBytes l, g, rw (d, e) h)
+  value-reg {u = u} {l = l} r s =
+      let c = reg-cells r in
+      (valueBytes (c .0) (mpidr u l), reg-number (c .0) (c .1) r .0, reg-number (c .0) (c .1) s .0)
 
-  -- where `reg` lies: four bytes for each address cell, and the MPIDR of them
-  module _ {n i k : ℕ} (a : AddressCells b n) (p : Property b i regKey k) where
-    pub reg-sized : {u l : ℕ} → Reg b i u l → valueSized (b .props) (b .pool) (4 * n) k ≡ true
-    reg-sized (Reg.oneCell c h _) = value-sized well (4 * n) p h (let e = cells-unique a c in omega arith)
-    reg-sized (Reg.twoCells c h _ _) = value-sized well (4 * n) p h (let e = cells-unique a c in omega arith)
-
-    pub reg-read : {u l : ℕ} → Reg b i u l → cellsAt (b .pool) n (valueOffset (b .props) k) ≡ mpidr u l
-    reg-read {u} {l} r = go r (sized-test (b .props) (b .pool) (4 * n) k .0 (reg-sized r))
-      where
-        at : ℕ
-        at = valueOffset (b .props) k
-
-        go : {x : ℕ} → Reg b i x l → (valueLength (b .props) k ≡ 4 * n) × (at + 4 * n ≤ length (b .pool)) → cellsAt (b .pool) n at ≡ mpidr x l
-        go (Reg.oneCell c h lt) s =
-            let e = cells-unique a c in
-            let size : valueLength (b .props) k ≡ 4 = omega (arith, s .0) in
-            rw (e, cell-back (b .pool) at (omega (arith, s .1)) l (omega arith) (rw size at (value-of well p h .1))) (omega arith)
-        go (Reg.twoCells {upper = x} c h hu hl) s =
-            let e = cells-unique a c in
-            let size : valueLength (b .props) k ≡ 8 = omega (arith, s .0) in
-            let t = pair-back (b .pool) at (omega (arith, s .1)) x l (omega arith) (omega arith) (rw size at (value-of well p h .1)) in
-            rw (e, t .0, t .1)
-
-  reg-place : {i u l : ℕ} → Reg b i u l → ((n : ℕ) × AddressCells b n) × ((k : ℕ) × Property b i regKey k)
-  reg-place (Reg.oneCell a h _) = ((1, a), (h .record-number, h .property))
-  reg-place (Reg.twoCells a h _ _) = ((2, a), (h .record-number, h .property))
+  -- a record has one `reg`
+  same-mpidr :
+      (c : Cells) → AddressCells b (countOf c) → {i u l n : ℕ} → Reg b i u l → HasValue b i regKey (valueBytes c n) → n < limit c → mpidr u l ≡ n
+  same-mpidr c a {u = u} {l = l} {n = n} r h lt = let t = reg-number c a r in bytes-apart c (mpidr u l) n (t .1) lt (value-unique well (t .0) h)
 
   pub reg-unique : {i u l v m : ℕ} → Reg b i u l → Reg b i v m → (u ≡ v) × (l ≡ m)
   reg-unique {i} {u} {l} {v} {m} r s =
-      let place = reg-place r in
-      let a = place .0 .1 in
-      let p = place .1 .1 in
+      let c = reg-cells r in
+      let t = reg-number (c .0) (c .1) s in
       let g = reg-bounds r in
       let h = reg-bounds s in
-      mpidr-apart u l (g .0) (g .1) v m (h .0) (h .1) (sym (reg-read a p r) ∙ reg-read a p s)
+      mpidr-apart u l (g .0) (g .1) v m (h .0) (h .1) (same-mpidr (c .0) (c .1) r (t .0) (t .1))
 
--- what a `reg` is read as: its MPIDR, or nothing where it is no MPIDR with affinity bits alone
-pub data RegSays (b : Board) (i : ℕ) : Mpidr → Type 0 where
-  reg : {u l m : ℕ} → Reg b i u l → m ≡ mpidr u l → RegSays b i (read.Is m)
-  none : ((u l : ℕ) → Reg b i u l → ⊥) → RegSays b i read.Not
+  -- a value with affinity bits alone is a `reg`
+  number-reg :
+      (c : Cells) →
+      AddressCells b (countOf c) →
+      {i n : ℕ} →
+      HasValue b i regKey (valueBytes c n) →
+      n < limit c →
+      isAffine n ≡ true →
+      (u : ℕ) × (l : ℕ) × Reg b i u l × (n ≡ mpidr u l)
+  number-reg One a {n = n} h lt e =
+      let t = affine-decides n .0 e in
+      (0, n, Reg.oneCell a h (omega (arith, t)), omega arith)
+  number-reg Two a {n = n} h lt e =
+      let t = affine-decides n .0 e in
+      (n / 2 ^ 32, n % 2 ^ 32, Reg.twoCells a h (omega (arith, t)) (omega (arith, t)), omega arith)
 
 module _ {b : Board} (typed : Typed b) (well : WellFormed b) where
   pub cells-say : CellsSay b (addressCells b)
@@ -123,7 +131,7 @@ module _ {b : Board} (typed : Typed b) (well : WellFormed b) where
       refuse :
           {w : ℕ} → HasValue b 0 addressCellsKey (cellBytes w) → w < 2 ^ 32 → (w ≡ 1 → ⊥) → (w ≡ 2 → b .width ≡ 64 → ⊥) → (n : ℕ) → AddressCells b n → ⊥
       refuse {w} h lt one two n a =
-          let same = cell-bytes-apart w n lt (cells-lt (a .allowed)) (value-unique well h (a .value)) in
+          let same = cell-bytes-apart w n lt (allowed-lt (a .allowed)) (value-unique well h (a .value)) in
           ⊎-elim (λ e. one (same ∙ e)) (λ t. two (same ∙ t .0) (t .1)) (cells-cases (a .allowed))
 
       pick :
@@ -136,90 +144,16 @@ module _ {b : Board} (typed : Typed b) (well : WellFormed b) where
           eqb w 2 ≡ s →
           (r : Bool) →
           eqb (b .width) 64 ≡ r →
-          CellsSay b (cond t 1 (cond s (cond r 2 0) 0))
-      pick {w} h lt true e s f r g = CellsSay.cells (record { value = rw (eqb-true w 1 e) at h; allowed = CellsAllowed.one })
+          CellsSay b (cond t (Are One) (cond s (cond r (Are Two) Broken) Broken))
+      pick {w} h lt true e s f r g = CellsSay.cells {c = One} (record { value = rw (eqb-true w 1 e) at h; allowed = CellsAllowed.one })
       pick {w} h lt false e true f true g =
-          CellsSay.cells {n = 2} (record { value = rw (eqb-true w 2 f) at h; allowed = rw (eqb-true (b .width) 64 g) CellsAllowed.two })
+          CellsSay.cells {c = Two} (record { value = rw (eqb-true w 2 f) at h; allowed = rw (eqb-true (b .width) 64 g) CellsAllowed.two })
       pick {w} h lt false e true f false g = CellsSay.none (refuse h lt (eqb-false w 1 e) (λ _. eqb-false (b .width) 64 g))
       pick {w} h lt false e false f r g = CellsSay.none (refuse h lt (eqb-false w 1 e) (λ q _. eqb-false w 2 f q))
 
-      go : {c : Cell} → CellSays b 0 addressCellsKey c → CellsSay b (cellsFor (b .width) c)
-      go (CellSays.cell {w = w} h lt) = pick h lt (eqb w 1) refl (eqb w 2) refl (eqb (b .width) 64) refl
-      go (CellSays.none n) = CellsSay.none (λ m a. n (cellBytes m) (a .value) refl)
-
-  pub cells-test : {n : ℕ} → addressCells b ≡ n → (n ≡ 0 → ⊥) → AddressCells b n
-  cells-test {n} = go cells-say
-    where
-      go : {m : ℕ} → CellsSay b m → m ≡ n → (n ≡ 0 → ⊥) → AddressCells b n
-      go (CellsSay.cells a) e ne = rw e at a
-      go (CellsSay.none _) e ne = absurd (ne (sym e))
-
-  pub test-cells : {n : ℕ} → AddressCells b n → addressCells b ≡ n
-  test-cells {n} a = go cells-say
-    where
-      go : {m : ℕ} → CellsSay b m → m ≡ n
-      go (CellsSay.cells c) = cells-unique well c a
-      go (CellsSay.none f) = absurd (f n a)
-
-  module _ {n : ℕ} (a : AddressCells b n) (i : ℕ) where
-    made :
-        {k : ℕ} →
-        Property b i regKey k →
-        valueSized (b .props) (b .pool) (4 * n) k ≡ true →
-        isAffine (cellsAt (b .pool) n (valueOffset (b .props) k)) ≡ true →
-        (u : ℕ) × (l : ℕ) × Reg b i u l × (cellsAt (b .pool) n (valueOffset (b .props) k) ≡ mpidr u l)
-    made {k} p sized affine = ⊎-elim one (λ t. two (t .0)) (cells-cases (a .allowed))
-      where
-        at : ℕ
-        at = valueOffset (b .props) k
-
-        size : (valueLength (b .props) k ≡ 4 * n) × (at + 4 * n ≤ length (b .pool))
-        size = sized-test (b .props) (b .pool) (4 * n) k .0 sized
-
-        lower : (x : ℕ) → cellAt (b .pool) x < 2 ^ 32
-        lower x = cell-lt (b .pool) x (typed .bytes)
-
-        one : n ≡ 1 → (u : ℕ) × (l : ℕ) × Reg b i u l × (cellsAt (b .pool) n at ≡ mpidr u l)
-        one e =
-            let len : valueLength (b .props) k ≡ 4 = omega (arith, size .0) in
-            let inside : at + 4 ≤ length (b .pool) = omega (arith, size .1) in
-            let same : cellsAt (b .pool) n at ≡ mpidr 0 (cellAt (b .pool) at) = rw e (omega arith) in
-            let parts = affine-parts 0 (cellAt (b .pool) at) (omega arith) (lower at) (rw same at affine) in
-            let value : HasValue b i regKey (cellBytes (cellAt (b .pool) at)) =
-            record { record-number = k; property = p; range = omega arith; bytes = rw len (cell-bytes (b .pool) at inside (typed .bytes)) } in
-            (0, cellAt (b .pool) at, Reg.oneCell (rw e at a) value (parts .1), same)
-
-        two : n ≡ 2 → (u : ℕ) × (l : ℕ) × Reg b i u l × (cellsAt (b .pool) n at ≡ mpidr u l)
-        two e =
-            let len : valueLength (b .props) k ≡ 8 = omega (arith, size .0) in
-            let inside : at + 8 ≤ length (b .pool) = omega (arith, size .1) in
-            let same : cellsAt (b .pool) n at ≡ mpidr (cellAt (b .pool) at) (cellAt (b .pool) (at + 4)) = rw e in
-            let parts = affine-parts (cellAt (b .pool) at) (cellAt (b .pool) (at + 4)) (lower at) (lower (at + 4)) (rw same at affine) in
-            let value : HasValue b i regKey (cellBytes (cellAt (b .pool) at) ++ cellBytes (cellAt (b .pool) (at + 4))) =
-            record { record-number = k; property = p; range = omega arith; bytes = rw len (pair-bytes (b .pool) at inside (typed .bytes)) } in
-            (cellAt (b .pool) at, cellAt (b .pool) (at + 4), Reg.twoCells (rw e at a) value (parts .0) (parts .1), same)
-
-    pub reg-says : RegSays b i (mpidrOf (b .props) (b .pool) n i)
-    unfolding mpidrOf
-    reg-says =
-        ⊎-elim
-        (λ t. rw (t .1) (at (t .2 .property) (valueSized (b .props) (b .pool) (4 * n) (t .0)) refl (isAffine (cellsAt (b .pool) n (valueOffset (b .props) (t .0)))) refl))
-        (λ t. rw (t .0) (RegSays.none (λ u l r. let k = reg-place well r .1 in t .1 (k .0) (k .1))))
-        (lookup-cases b i regKey)
-      where
-        at :
-            {k : ℕ} →
-            Property b i regKey k →
-            (t : Bool) →
-            valueSized (b .props) (b .pool) (4 * n) k ≡ t →
-            (s : Bool) →
-            isAffine (cellsAt (b .pool) n (valueOffset (b .props) k)) ≡ s →
-            RegSays b i (cond t (cond s (read.Is (cellsAt (b .pool) n (valueOffset (b .props) k))) read.Not) read.Not)
-        at p true e true f = let t = made p e f in RegSays.reg (t .2) (t .3)
-        at p true e false f =
-            RegSays.none
-            (λ u l r. let g = reg-bounds r in true-false (parts-affine u l (g .0) (g .1)) (rw (reg-read well a p r) at f))
-        at p false e s f = RegSays.none (λ u l r. true-false (reg-sized well a p r) e)
+      go : {v : Value} → ValueSays b One 0 addressCellsKey v → CellsSay b (cellsFor (b .width) v)
+      go (ValueSays.number {n = w} h lt) = pick h lt (eqb w 1) refl (eqb w 2) refl (eqb (b .width) 64) refl
+      go (ValueSays.none n) = CellsSay.none (λ m a. n (cellBytes m) (a .value) refl)
 
 -- what a cpu record's MPIDR is read as: its `reg`, or the rule that is broken
 pub data MpidrSays (b : Board) (i : ℕ) : Reading → Type 0 where
@@ -236,15 +170,34 @@ pub phandle-unique : {b : Board} (well : WellFormed b) {i g h : ℕ} → Phandle
 phandle-unique well {i} {g} {h} p q = cell-bytes-apart g h (p .word) (q .word) (value-unique well (p .value) (q .value))
 
 module _ {b : Board} (typed : Typed b) (well : WellFormed b) (i : ℕ) where
-  module _ (a : AddressCells b (addressCells b)) where
+  module _ (a : CellsRead b) where
     pub mpidr-says : MpidrSays b i (mpidrReadings b i)
-    unfolding readingFrom readingOf hasValue mpidrOf
-    mpidr-says = go _ (has-value-test well cpuString) (reg-says typed well a i)
+    unfolding readingFrom readingOf cellOf
+    mpidr-says = go _ (number-test typed well i deviceTypeKey cpuCell (omega arith)) (value-says typed well i regKey (regCells b))
       where
-        go : (s : Bool) → Decides s (HasValue b i deviceTypeKey cpuString) → {c : Mpidr} → RegSays b i c → MpidrSays b i (cond s (mpidrReading c) (reading 11 0))
-        go true kind (RegSays.reg r q) = MpidrSays.reg (kind .0 refl) r q
-        go true kind (RegSays.none f) = MpidrSays.unread (kind .0 refl) f
-        go false kind c = MpidrSays.untyped (decides-not kind .0 refl)
+        pick :
+            {n : ℕ} →
+            HasValue b i deviceTypeKey cpuString →
+            HasValue b i regKey (valueBytes (regCells b) n) →
+            n < limit (regCells b) →
+            (t : Bool) →
+            isAffine n ≡ t →
+            MpidrSays b i (numberOr 12 (cond t (Is n) Not))
+        pick kind h lt true e = let t = number-reg well (regCells b) a h lt e in MpidrSays.reg kind (t .2) (t .3)
+        pick kind h lt false e =
+            MpidrSays.unread kind
+            (λ u l r. let g = reg-bounds r in true-false (parts-affine u l (g .0) (g .1)) (ap isAffine (same-mpidr well (regCells b) a r h lt) ∙ e))
+
+        go :
+            (s : Bool) →
+            Decides s (HasValue b i deviceTypeKey cpuString) →
+            {v : Value} →
+            ValueSays b (regCells b) i regKey v →
+            MpidrSays b i (cond s (numberOr 12 (affineOnly v)) (numberOr 11 Not))
+        go false kind v = MpidrSays.untyped (decides-not kind .0 refl)
+        go true kind (ValueSays.number {n = n} h lt) = pick (kind .0 refl) h lt (isAffine n) refl
+        go true kind (ValueSays.none f) =
+            MpidrSays.unread (kind .0 refl) (λ u l r. f _ (reg-number well (regCells b) a r .0) (bytes-length (regCells b) (mpidr u l)))
 
     -- a sound reading is the `reg`
     pub mpidr-read : mpidrReadings b i .number ≡ 0 → (u : ℕ) × (l : ℕ) × Reg b i u l × (mpidrReadings b i .value ≡ mpidr u l)
@@ -270,14 +223,14 @@ module _ {b : Board} (typed : Typed b) (well : WellFormed b) (i : ℕ) where
           eqb w 0 ≡ t →
           (s : Bool) →
           eqb w 0xFFFFFFFF ≡ s →
-          PhandleSays b i (phandleReading (cond t Not (cond s Not (Is w))))
+          PhandleSays b i (numberOr 17 (cond t Not (cond s Not (Is w))))
       pick {w} v lt true e s f = PhandleSays.none (λ h p. p .not-zero (sym (same v lt p) ∙ eqb-true w 0 e))
       pick {w} v lt false e true f = PhandleSays.none (λ h p. p .not-ones (sym (same v lt p) ∙ eqb-true w 0xFFFFFFFF f))
       pick {w} v lt false e false f = PhandleSays.phandle (record { value = v; word = lt; not-zero = eqb-false w 0 e; not-ones = eqb-false w 0xFFFFFFFF f })
 
-      go : {c : Cell} → CellSays b i phandleKey c → PhandleSays b i (phandleReading (phandleIn c))
-      go (CellSays.cell {w = w} v lt) = pick v lt (eqb w 0) refl (eqb w 0xFFFFFFFF) refl
-      go (CellSays.none n) = PhandleSays.none (λ h p. n (cellBytes h) (p .value) refl)
+      go : {x : Value} → ValueSays b One i phandleKey x → PhandleSays b i (numberOr 17 (phandleIn x))
+      go (ValueSays.number {n = w} v lt) = pick v lt (eqb w 0) refl (eqb w 0xFFFFFFFF) refl
+      go (ValueSays.none n) = PhandleSays.none (λ h p. n (cellBytes h) (p .value) refl)
 
   pub phandle-read : phandleReadings b i .number ≡ 0 → Phandle b i (phandleReadings b i .value)
   phandle-read = go phandle-says

@@ -14,7 +14,7 @@ use Rattle.keys.specs.Key.{regKey, deviceTypeKey}
 use Rattle.cpus.specs.Words.{cpuString}
 use Rattle.cpus.specs.Node.{Cpu, Reg}
 use Rattle.cpus.specs.Rules.{CpuRule}
-use Rattle.cpus.specs.Check.{addressCells, cpuList}
+use Rattle.cpus.specs.Check.{cpuList}
 use Rattle.cpus.proofs.CpuMeans.{cpu-listing, cpu-count}
 use Rattle.cpus.proofs.RegMeans.{reg-value, phandle-unique}
 use Rattle.cpus.proofs.FaultMeans.{Root, CountRange, CpuSays, OwnPhandle}
@@ -51,7 +51,7 @@ module _ {b : Board} (well : WellFormed b) where
 
   pub staged : {m q : ℕ} → CpuRule b m q → Staged b (stage m) m q
   staged (CpuRule.notCpus f) = Staged.root (λ r. f (r .name))
-  staged (CpuRule.addressCells f) = Staged.root (λ r. f (addressCells b) (r .cells))
+  staged (CpuRule.addressCells f) = Staged.root (λ r. f _ (r .cells))
   staged (CpuRule.sizeCells f) = Staged.root (λ r. f (r .size))
   staged (CpuRule.noCpus f) = Staged.count (λ r. f (getD (cpuList b) 0 0) (cpu-listing well .only 0 (omega (arith, r .0, cpu-count b))))
   staged (CpuRule.manyCpus l h lt) = Staged.count (λ r. omega (arith, r .1, cpu-count b, ap length (listing-unique l (cpuList b) h (cpu-listing well))))

@@ -4,12 +4,12 @@ use mathlib.Core.Bool.{Bool, true, false, cond}
 use mathlib.Core.List.{List, map}
 use Prim.Native.Nat.{ℕ, _<_}
 use lib.Dec.{eqb}
-use lib.ListN.{length, getD, take}
+use lib.ListN.{length, getD}
 use lib.Seq.{take-length}
 use borrow.Author.Tests.{eq-eqb, eqb-true}
 use Rattle.laws.specs.Fault.{firstFault}
 use Rattle.laws.specs.Search.{anyBelow, countBelow, listBelow, isAmong}
-use Rattle.laws.specs.Listed.{over, toldOf, passedOf}
+use Rattle.laws.specs.Listed.{over, toldOf}
 use Rattle.laws.proofs.SearchLaws.{any-at, any-place}
 use Rattle.laws.proofs.TestLaws.{both-true}
 use Rattle.laws.proofs.DecideLaws.{Decides}

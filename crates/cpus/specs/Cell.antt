@@ -1,4 +1,4 @@
--- Reading a property's value as cells.
+-- Reading a property's value as a number of one cell or of two.
 use mathlib.Core.Bool.{Bool, false, cond}
 use mathlib.Core.List.{List}
 use Prim.Native.Nat.{ℕ, _+_, _*_, _^_}
@@ -7,57 +7,50 @@ use lib.ListN.{length}
 use Rattle.affinity.specs.Level.{isAffine}
 use Rattle.tables.specs.declared.Lookup.{Lookup}
 use Rattle.tables.specs.declared.Lookup.the-variants.{At, Missing}
-use Rattle.tables.specs.Board.{valueOffset, valueLength, rangeIs}
+use Rattle.tables.specs.Board.{valueOffset, valueLength}
 use Rattle.tables.specs.Property.{lookup, cellAt}
-use Rattle.keys.specs.Key.{regKey}
-use Rattle.cpus.specs.declared.Cell.{Cell}
-use Rattle.cpus.specs.declared.Cell.the-variants.{Is, Not}
-use Rattle.cpus.specs.declared.Mpidr.{Mpidr}
-use Rattle.cpus.specs.declared.Mpidr.the-variants as mpidr
+use Rattle.cpus.specs.declared.Cells.{Cells}
+use Rattle.cpus.specs.declared.Cells.the-variants.{One, Two}
+use Rattle.cpus.specs.declared.Value.{Value}
+use Rattle.cpus.specs.declared.Value.the-variants.{Is, Not}
+
+-- the bytes of one cell, or of two
+abbrev pub sizeOf : Cells → ℕ
+sizeOf One = 4
+sizeOf Two = 8
 
 -- whether property k's value lies inside the pool and has a length
 abbrev pub valueSized : List ℕ → List ℕ → ℕ → ℕ → Bool
 valueSized props pool len k = cond (eqb (valueLength props k) len) (leb (valueOffset props k + len) (length pool)) false
 
--- the cell that is the value of property k, if it has four bytes
-abbrev pub cellIn : List ℕ → List ℕ → Lookup → Cell
-cellIn props pool (At k) = cond (valueSized props pool 4 k) (Is (cellAt pool (valueOffset props k))) Not
-cellIn props pool Missing = Not
+-- the number of the cells from `at` on: the only cell, or the upper and the lower
+abbrev pub cellsAt : List ℕ → Cells → ℕ → ℕ
+cellsAt pool One at = cellAt pool at
+cellsAt pool Two at = cellAt pool at * 2 ^ 32 + cellAt pool (at + 4)
+
+-- the number that is the value of a property, if it was found and has so many cells
+abbrev pub valueIn : List ℕ → List ℕ → Cells → Lookup → Value
+valueIn props pool cells (At k) = cond (valueSized props pool (sizeOf cells) k) (Is (cellsAt pool cells (valueOffset props k))) Not
+valueIn props pool cells Missing = Not
+
+abbrev pub cellIn : List ℕ → List ℕ → Lookup → Value
+cellIn props pool found = valueIn props pool One found
 
 -- the cell that is the value of record i's property `key`
-unfoldable pub cellOf : List ℕ → List ℕ → ℕ → List ℕ → Cell
+unfoldable pub cellOf : List ℕ → List ℕ → ℕ → List ℕ → Value
 cellOf props pool i key = cellIn props pool (lookup props pool i key)
 
--- whether record i has a property `key` with given bytes
-abbrev pub valueIn : List ℕ → List ℕ → List ℕ → Lookup → Bool
-valueIn props pool bytes (At k) = rangeIs pool (valueOffset props k) (valueLength props k) bytes
-valueIn props pool bytes Missing = false
+-- whether a value is a given number
+abbrev pub isNumber : Value → ℕ → Bool
+isNumber (Is n) number = eqb n number
+isNumber Not number = false
 
-unfoldable pub hasValue : List ℕ → List ℕ → ℕ → List ℕ → List ℕ → Bool
-hasValue props pool i key bytes = valueIn props pool bytes (lookup props pool i key)
+-- an MPIDR: affinity bits alone
+abbrev pub affineOnly : Value → Value
+affineOnly (Is m) = cond (isAffine m) (Is m) Not
+affineOnly Not = Not
 
--- whether a cell is `cpu` and one zero byte
-abbrev pub isCpuString : Cell → Bool
-isCpuString (Is w) = eqb w 0x63707500
-isCpuString Not = false
-
--- the MPIDR of the cells from `at` on: the lower cell alone, or the upper and the lower
-abbrev pub cellsAt : List ℕ → ℕ → ℕ → ℕ
-cellsAt pool cells at = cond (eqb cells 2) (cellAt pool at * 2 ^ 32 + cellAt pool (at + 4)) (cellAt pool at)
-
--- an MPIDR with affinity bits alone
-abbrev pub affineOnly : ℕ → Mpidr
-affineOnly m = cond (isAffine m) (mpidr.Is m) mpidr.Not
-
-abbrev pub mpidrIn : List ℕ → List ℕ → ℕ → Lookup → Mpidr
-mpidrIn props pool cells (At k) = cond (valueSized props pool (4 * cells) k) (affineOnly (cellsAt pool cells (valueOffset props k))) mpidr.Not
-mpidrIn props pool cells Missing = mpidr.Not
-
--- record i's `reg` as an MPIDR, if it has four bytes for each address cell and affinity bits alone
-unfoldable pub mpidrOf : List ℕ → List ℕ → ℕ → ℕ → Mpidr
-mpidrOf props pool cells i = mpidrIn props pool cells (lookup props pool i regKey)
-
--- a phandle: a cell that is neither 0 nor 0xFFFFFFFF
-abbrev pub phandleIn : Cell → Cell
+-- a phandle: neither 0 nor 0xFFFFFFFF
+abbrev pub phandleIn : Value → Value
 phandleIn (Is h) = cond (eqb h 0) Not (cond (eqb h 0xFFFFFFFF) Not (Is h))
 phandleIn Not = Not

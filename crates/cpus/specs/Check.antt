@@ -8,12 +8,16 @@ use Rattle.laws.specs.Fault.{told, orElse}
 use Rattle.laws.specs.Search.{countBelow, listBelow}
 use Rattle.tables.specs.Board.{Board, nodeCount, nameOffset, nameLength, rangeIs}
 use Rattle.tables.specs.Tree.{isChild}
-use Rattle.cpus.specs.declared.Cell.{Cell}
-use Rattle.cpus.specs.declared.Cell.the-variants.{Is, Not}
+use Rattle.cpus.specs.declared.Cells.{Cells}
+use Rattle.cpus.specs.declared.Cells.the-variants.{One, Two}
+use Rattle.cpus.specs.declared.RootCells.{RootCells}
+use Rattle.cpus.specs.declared.RootCells.the-variants.{Are, Broken}
+use Rattle.cpus.specs.declared.Value.{Value}
+use Rattle.cpus.specs.declared.Value.the-variants.{Is, Not}
 use Rattle.cpus.specs.declared.Wanted.the-variants.{Mpidrs, Phandles}
 use Rattle.cpus.specs.declared.Reading.{Reading}
 use Rattle.cpus.specs.Words.{cpusWord, cpuWord, cpuUnit, addressCellsKey, sizeCellsKey}
-use Rattle.cpus.specs.Cell.{cellOf}
+use Rattle.cpus.specs.Cell.{cellOf, isNumber}
 use Rattle.cpus.specs.Rules.{maxCpus}
 use Rattle.cpus.specs.Gather.{readingOf, firstRecord}
 
@@ -24,28 +28,36 @@ isCpuName pool offset len = cond (rangeIs pool offset len cpuWord) true (cond (l
 unfoldable pub isCpu : List ℕ → List ℕ → ℕ → Bool
 isCpu nodes pool i = cond (isChild nodes 0 i) (isCpuName pool (nameOffset nodes i) (nameLength nodes i)) false
 
--- the number of address cells that a cell gives a board of a width: 1 or 2, 0 where it is not allowed
-abbrev pub cellsFor : ℕ → Cell → ℕ
-cellsFor width (Is n) = cond (eqb n 1) 1 (cond (eqb n 2) (cond (eqb width 64) 2 0) 0)
-cellsFor width Not = 0
+-- what `#address-cells` gives a board of a width: one cell, or on width 64 two
+abbrev pub cellsFor : ℕ → Value → RootCells
+cellsFor width (Is n) = cond (eqb n 1) (Are One) (cond (eqb n 2) (cond (eqb width 64) (Are Two) Broken) Broken)
+cellsFor width Not = Broken
 
-unfoldable pub addressCells : Board → ℕ
+unfoldable pub addressCells : Board → RootCells
 addressCells b = cellsFor (b .width) (cellOf (b .props) (b .pool) 0 addressCellsKey)
 
-abbrev pub isZeroCell : Cell → Bool
-isZeroCell (Is n) = eqb n 0
-isZeroCell Not = false
+-- the cells of the board's `reg`s, or Broken where rule 9 is broken
+unfoldable pub soundCells : Board → RootCells
+soundCells b =
+    cond (rangeIs (b .pool) (nameOffset (b .nodes) 0) (nameLength (b .nodes) 0) cpusWord)
+    (cond (isNumber (cellOf (b .props) (b .pool) 0 sizeCellsKey) 0) (addressCells b) Broken)
+    Broken
 
 -- rule 9
-unfoldable pub rootFault : Board → ℕ
-rootFault b =
-    cond (rangeIs (b .pool) (nameOffset (b .nodes) 0) (nameLength (b .nodes) 0) cpusWord)
-    (cond (eqb (addressCells b) 0) 9 (cond (isZeroCell (cellOf (b .props) (b .pool) 0 sizeCellsKey)) 0 9))
-    9
+abbrev pub rootNumber : RootCells → ℕ
+rootNumber (Are cells) = 0
+rootNumber Broken = 9
 
--- the number of address cells, 0 where rule 9 is broken
-unfoldable pub soundCells : Board → ℕ
-soundCells b = cond (eqb (rootFault b) 0) (addressCells b) 0
+abbrev pub rootFault : Board → ℕ
+rootFault b = rootNumber (soundCells b)
+
+-- the cells of a `reg`; one where rule 9 is broken: what is read by it is then not told
+abbrev pub cellsOf : RootCells → Cells
+cellsOf (Are cells) = cells
+cellsOf Broken = One
+
+abbrev pub regCells : Board → Cells
+regCells b = cellsOf (soundCells b)
 
 abbrev pub cpuCount : Board → ℕ
 cpuCount b = countBelow (isCpu (b .nodes) (b .pool)) (nodeCount (b .nodes))
@@ -60,7 +72,7 @@ cpuList b = listBelow (isCpu (b .nodes) (b .pool)) (nodeCount (b .nodes))
 
 -- the readings of the records, looked up in the property table: their MPIDRs, and their phandles
 abbrev pub mpidrReadings : Board → ℕ → Reading
-mpidrReadings b = readingOf (Mpidrs (addressCells b)) (b .props) (b .pool)
+mpidrReadings b = readingOf (Mpidrs (regCells b)) (b .props) (b .pool)
 
 abbrev pub phandleReadings : Board → ℕ → Reading
 phandleReadings b = readingOf Phandles (b .props) (b .pool)

@@ -14,32 +14,27 @@ use Rattle.keys.specs.declared.Key.{Key}
 use Rattle.keys.specs.declared.Key.the-variants.{Reg, Phandle, DeviceType}
 use Rattle.keys.specs.Key.{keyName}
 use Rattle.keys.specs.Index.{keyAt}
-use Rattle.cpus.specs.declared.Cell.{Cell}
-use Rattle.cpus.specs.declared.Cell.the-variants.{Is, Not}
-use Rattle.cpus.specs.declared.Mpidr as declared-mpidr
-use Rattle.cpus.specs.declared.Mpidr.the-variants as mpidr
+use Rattle.cpus.specs.declared.Value.{Value}
+use Rattle.cpus.specs.declared.Value.the-variants.{Is, Not}
 use Rattle.cpus.specs.declared.Wanted.{Wanted}
 use Rattle.cpus.specs.declared.Wanted.the-variants as wanted
 use Rattle.cpus.specs.declared.Reading.{Reading}
-use Rattle.cpus.specs.Words.{cpuString}
-use Rattle.cpus.specs.Cell.{cellIn, valueIn, mpidrIn, phandleIn}
+use Rattle.cpus.specs.Words.{cpuCell}
+use Rattle.cpus.specs.Cell.{valueIn, cellIn, isNumber, affineOnly, phandleIn}
 
 abbrev pub reading : ℕ → ℕ → Reading
 reading number value = record { number = number; value = value }
 
-abbrev pub mpidrReading : declared-mpidr.Mpidr → Reading
-mpidrReading (mpidr.Is m) = reading 0 m
-mpidrReading mpidr.Not = reading 12 0
-
-abbrev pub phandleReading : Cell → Reading
-phandleReading (Is h) = reading 0 h
-phandleReading Not = reading 17 0
+-- a value's number, or the rule that is broken where it is not there
+abbrev pub numberOr : ℕ → Value → Reading
+numberOr rule (Is n) = reading 0 n
+numberOr rule Not = reading rule 0
 
 -- what a cpu record alone breaks, 0 where nothing, and its number, from where its properties stand
 unfoldable pub readingFrom : Wanted → List ℕ → List ℕ → (Key → Lookup) → Reading
 readingFrom (wanted.Mpidrs cells) props pool at =
-    cond (valueIn props pool cpuString (at DeviceType)) (mpidrReading (mpidrIn props pool cells (at Reg))) (reading 11 0)
-readingFrom wanted.Phandles props pool at = phandleReading (phandleIn (cellIn props pool (at Phandle)))
+    cond (isNumber (cellIn props pool (at DeviceType)) cpuCell) (numberOr 12 (affineOnly (valueIn props pool cells (at Reg)))) (numberOr 11 Not)
+readingFrom wanted.Phandles props pool at = numberOr 17 (phandleIn (cellIn props pool (at Phandle)))
 
 -- record i, by a table of keys; and looked up in the property table
 abbrev pub readingAt : Wanted → List ℕ → List ℕ → List ℕ → ℕ → Reading

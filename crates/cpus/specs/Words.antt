@@ -18,6 +18,10 @@ cpuUnit = 99 ∷ 112 ∷ 117 ∷ 64 ∷ []
 abbrev pub cpuString : List ℕ
 cpuString = 99 ∷ 112 ∷ 117 ∷ 0 ∷ []
 
+-- the same as a cell
+abbrev pub cpuCell : ℕ
+cpuCell = 0x63707500
+
 -- `#address-cells`
 abbrev pub addressCellsKey : List ℕ
 addressCellsKey = 35 ∷ 97 ∷ 100 ∷ 100 ∷ 114 ∷ 101 ∷ 115 ∷ 115 ∷ 45 ∷ 99 ∷ 101 ∷ 108 ∷ 108 ∷ 115 ∷ []

@@ -8,8 +8,7 @@ use laws::Fault;
 use laws::REPEATED_REG;
 use laws::is_among;
 ghost use mathlib.Core.Path.{_≡_};
-ghost use Prim.Native.Nat.{_≤_};
-ghost use lib.ListN.{length};
+ghost use lib.ListN.{length, take};
 ghost use Rattle.laws.specs.Search.{isAmong};
 ghost use Rattle.cpus.specs.Gather.{readingAt, repeatRule, unlessSeen, firstRecord, numbersOver};
 
@@ -49,7 +48,7 @@ fn next_reading(
     first
 }
 
-// The numbers of cpu records, up to the first that breaks a rule.
+// The numbers of cpu records, as many as there is room for, up to the first that breaks a rule.
 pub fn read_numbers(
     wanted: Wanted,
     props: &[u32],
@@ -58,16 +57,17 @@ pub fn read_numbers(
     records: &[usize],
     values: &mut [u64],
 ) -> Fault
-    requires { ⌜ length (now records) ≤ length (now values) ⌝ }
     ensures fault { λ r.
         let read = readingAt wanted (now (props .entry)) (now (pool .entry)) (now (keys .entry)) in
-        ⌜ r ≡ firstRecord read (repeatRule wanted) (now (records .entry)) ⌝ }
+        let cut = take (length (now (values .entry))) (now (records .entry)) in
+        ⌜ r ≡ firstRecord read (repeatRule wanted) cut ⌝ }
     ensures values { λ _.
         let read = readingAt wanted (now (props .entry)) (now (pool .entry)) (now (keys .entry)) in
-        ⌜ now (values .exit) ≡ numbersOver read (repeatRule wanted) (now (records .entry)) (now (values .entry)) ⌝ }
+        let cut = take (length (now (values .entry))) (now (records .entry)) in
+        ⌜ now (values .exit) ≡ numbersOver read (repeatRule wanted) cut (now (values .entry)) ⌝ }
 {
     let mut k: usize = 0;
-    while k < records.len() {
+    while k < values.len() && k < records.len() {
         let i = records[k];
         let reading = next_reading(wanted, props, pool, keys, &values[..k], i);
         if reading.number != 0 {

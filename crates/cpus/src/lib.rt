@@ -2,33 +2,39 @@
 mod gather;
 mod limits;
 mod node;
+mod property;
 mod read;
 mod root;
-mod value;
 
 pub use gather::read_numbers;
 pub use limits::MAX_CPUS;
 pub use node::is_cpu;
+pub use property::cell_in;
 pub use root::count_fault;
 pub use root::list_cpus;
 pub use root::read_cells;
-pub use value::cell_in;
 
-// A property's value of four bytes, or not.
-pub enum Cell {
-    Is(u32),
-    Not,
-}
-
-// A `reg` with affinity bits alone, or not.
-enum Mpidr {
+// A property's value as a number, or not.
+pub enum Value {
     Is(u64),
     Not,
 }
 
-// The number of each cpu record to gather: its MPIDR of so many address cells, or its phandle.
+// A value of one cell, or of two.
+pub enum Cells {
+    One,
+    Two,
+}
+
+// The cells of the board's `reg`s, or Broken where rule 9 is broken.
+pub enum RootCells {
+    Are(Cells),
+    Broken,
+}
+
+// The number of each cpu record to gather: its MPIDR, from a `reg` of so many cells, or its phandle.
 pub enum Wanted {
-    Mpidrs(usize),
+    Mpidrs(Cells),
     Phandles,
 }
 

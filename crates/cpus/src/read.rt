@@ -1,10 +1,11 @@
 // What is read of one cpu record: rules 11, 12 and 17.
-use crate::Cell;
-use crate::Mpidr;
 use crate::Reading;
+use crate::Value;
 use crate::Wanted;
-use crate::value::cell_in;
-use crate::value::mpidr_in;
+use crate::property::cell_in;
+use crate::property::is_number;
+use crate::property::value_in;
+use affinity::is_affine;
 use keys::KEY_WORDS;
 use keys::Key;
 use keys::find_key;
@@ -12,68 +13,55 @@ use laws::BAD_DEVICE_TYPE;
 use laws::BAD_PHANDLE;
 use laws::BAD_REG;
 ghost use mathlib.Core.Path.{_≡_};
-ghost use Rattle.cpus.specs.Cell.{isCpuString, phandleIn};
-ghost use Rattle.cpus.specs.Gather.{mpidrReading, phandleReading, readingAt};
+ghost use Rattle.cpus.specs.Cell.{affineOnly, phandleIn};
+ghost use Rattle.cpus.specs.Gather.{numberOr, readingAt};
 
 // `cpu` and one zero byte as a cell.
-const CPU_STRING: u32 = 0x63707500;
+const CPU_STRING: u64 = 0x63707500;
 
-// 12 where an MPIDR is not there, and its number.
-fn mpidr_reading(mpidr: Mpidr) -> Reading
-    ensures { λ r. ⌜ r ≡ mpidrReading mpidr ⌝ }
+// An MPIDR: affinity bits alone.
+fn affine_only(value: Value) -> Value
+    ensures { λ r. ⌜ r ≡ affineOnly value ⌝ }
 {
-    match mpidr {
-        Mpidr::Is(m) => Reading {
-            number: 0,
-            value: m,
-        },
-        Mpidr::Not => Reading {
-            number: BAD_REG,
-            value: 0,
-        },
+    let Value::Is(m) = value else {
+        return Value::Not;
+    };
+    if is_affine(m) {
+        return Value::Is(m);
     }
+    Value::Not
 }
 
-// A phandle: a cell that is neither 0 nor 0xFFFFFFFF.
-fn phandle_in(cell: Cell) -> Cell
-    ensures { λ r. ⌜ r ≡ phandleIn cell ⌝ }
+// A phandle: neither 0 nor 0xFFFFFFFF.
+fn phandle_in(value: Value) -> Value
+    ensures { λ r. ⌜ r ≡ phandleIn value ⌝ }
 {
-    let Cell::Is(h) = cell else {
-        return Cell::Not;
+    let Value::Is(h) = value else {
+        return Value::Not;
     };
     if h == 0 {
-        return Cell::Not;
+        return Value::Not;
     }
     if h == 0xFFFFFFFF {
-        return Cell::Not;
+        return Value::Not;
     }
-    Cell::Is(h)
+    Value::Is(h)
 }
 
-// 17 where a phandle is not there, and its number.
-fn phandle_reading(phandle: Cell) -> Reading
-    ensures { λ r. ⌜ r ≡ phandleReading phandle ⌝ }
+// A value's number, or the rule that is broken where it is not there.
+fn number_or(rule: u32, value: Value) -> Reading
+    ensures { λ r. ⌜ r ≡ numberOr rule value ⌝ }
 {
-    match phandle {
-        Cell::Is(h) => Reading {
+    match value {
+        Value::Is(n) => Reading {
             number: 0,
-            value: h as u64,
+            value: n,
         },
-        Cell::Not => Reading {
-            number: BAD_PHANDLE,
+        Value::Not => Reading {
+            number: rule,
             value: 0,
         },
     }
-}
-
-// Whether a cell is `cpu` and one zero byte.
-fn is_cpu_string(cell: Cell) -> bool
-    ensures { λ r. ⌜ r ≡ isCpuString cell ⌝ }
-{
-    let Cell::Is(w) = cell else {
-        return false;
-    };
-    w == CPU_STRING
 }
 
 // What a cpu record alone breaks, 0 where nothing, and its number.
@@ -87,13 +75,13 @@ pub fn read_record(
     ensures { λ r. ⌜ r ≡ readingAt wanted (now (props .entry)) (now (pool .entry)) (now (keys .entry)) i ⌝ }
 {
     let Wanted::Mpidrs(cells) = wanted else {
-        return phandle_reading(phandle_in(cell_in(props, pool, find_key(keys, i, Key::Phandle))));
+        let phandle = cell_in(props, pool, find_key(keys, i, Key::Phandle));
+        return number_or(BAD_PHANDLE, phandle_in(phandle));
     };
-    if is_cpu_string(cell_in(props, pool, find_key(keys, i, Key::DeviceType))) {
-        return mpidr_reading(mpidr_in(props, pool, cells, find_key(keys, i, Key::Reg)));
+    let kind = cell_in(props, pool, find_key(keys, i, Key::DeviceType));
+    if is_number(kind, CPU_STRING) {
+        let reg = value_in(props, pool, cells, find_key(keys, i, Key::Reg));
+        return number_or(BAD_REG, affine_only(reg));
     }
-    Reading {
-        number: BAD_DEVICE_TYPE,
-        value: 0,
-    }
+    number_or(BAD_DEVICE_TYPE, Value::Not)
 }

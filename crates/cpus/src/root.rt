@@ -1,8 +1,11 @@
 // Rules 9 and 10: the root record and the number of cpu records.
-use crate::Cell;
+use crate::Cells;
+use crate::RootCells;
+use crate::Value;
 use crate::limits::MAX_CPUS;
 use crate::node::is_cpu;
-use crate::value::cell_of;
+use crate::property::cell_of;
+use crate::property::is_number;
 use laws::BAD_CPU_COUNT;
 use tables::name_is;
 ghost use mathlib.Core.Path.{_≡_};
@@ -10,48 +13,38 @@ ghost use lib.ListN.{set};
 ghost use Rattle.laws.specs.Search.{countBelow, listBelow};
 ghost use Rattle.laws.specs.Listed.{over};
 ghost use Rattle.tables.specs.Board.{board, nodeCount};
-ghost use Rattle.cpus.specs.Check.{isCpu, cellsFor, isZeroCell, soundCells, countFault};
+ghost use Rattle.cpus.specs.Check.{isCpu, cellsFor, soundCells, countFault};
 
-// The number of address cells that a cell gives a board of a width: 1 or 2, 0 where it is not allowed.
-fn cells_for(width: u32, cell: Cell) -> usize
-    ensures { λ r. ⌜ r ≡ cellsFor width cell ⌝ }
+// What `#address-cells` gives a board of a width: one cell, or on width 64 two.
+fn cells_for(width: u32, value: Value) -> RootCells
+    ensures { λ r. ⌜ r ≡ cellsFor width value ⌝ }
 {
-    let Cell::Is(n) = cell else {
-        return 0;
+    let Value::Is(n) = value else {
+        return RootCells::Broken;
     };
     if n == 1 {
-        return 1;
+        return RootCells::Are(Cells::One);
     }
     if n != 2 {
-        return 0;
+        return RootCells::Broken;
     }
     if width != 64 {
-        return 0;
+        return RootCells::Broken;
     }
-    2
+    RootCells::Are(Cells::Two)
 }
 
-// Whether a cell is there and 0.
-fn is_zero_cell(cell: Cell) -> bool
-    ensures { λ r. ⌜ r ≡ isZeroCell cell ⌝ }
-{
-    let Cell::Is(n) = cell else {
-        return false;
-    };
-    n == 0
-}
-
-// The number of address cells, 1 or 2; 0 where rule 9 is broken.
-pub fn read_cells(width: u32, nodes: &[u32], props: &[u32], pool: &[u8]) -> usize
+// The cells of the board's `reg`s: rule 9.
+pub fn read_cells(width: u32, nodes: &[u32], props: &[u32], pool: &[u8]) -> RootCells
     ensures { λ r. ⌜ r ≡ soundCells (board width (now (nodes .entry)) (now (props .entry)) (now (pool .entry))) ⌝ }
 {
     if !name_is(nodes, pool, 0, b"cpus") {
-        return 0;
+        return RootCells::Broken;
     }
-    if is_zero_cell(cell_of(props, pool, 0, b"#size-cells")) {
+    if is_number(cell_of(props, pool, 0, b"#size-cells"), 0) {
         return cells_for(width, cell_of(props, pool, 0, b"#address-cells"));
     }
-    0
+    RootCells::Broken
 }
 
 // Writes a record's number at index k, if there is room.

@@ -13,8 +13,8 @@ use Rattle.tables.specs.Board.{Board, Typed}
 use Rattle.tables.specs.Property.{cellBytes}
 use Rattle.wellformed.specs.Rules.{WellFormed}
 use Rattle.keys.specs.Key.{cpuKey}
-use Rattle.cpus.specs.declared.Cell.{Cell}
-use Rattle.cpus.specs.declared.Cell.the-variants.{Is, Not}
+use Rattle.cpus.specs.declared.Value.{Value}
+use Rattle.cpus.specs.declared.Value.the-variants.{Is, Not}
 use Rattle.cpus.specs.Node.{Phandle}
 use Rattle.cpus.specs.Rules.{CpuRule}
 use Rattle.cpus.specs.Cell.{cellOf}
@@ -34,7 +34,7 @@ module _ {b : Board} (typed : Typed b) (well : WellFormed b) (no17 : (p : ℕ) �
   unfolding leafCpu
   index-names i = go (cellOf (b .props) (b .pool) i cpuKey) refl
     where
-      go : (x : Cell) → cellOf (b .props) (b .pool) i cpuKey ≡ x → indexOf (phandleList b) x < length (phandleList b) → Names b i (cpuAt b (indexOf (phandleList b) x))
+      go : (x : Value) → cellOf (b .props) (b .pool) i cpuKey ≡ x → indexOf (phandleList b) x < length (phandleList b) → Names b i (cpuAt b (indexOf (phandleList b) x))
       go Not e lt = absurd (omega arith)
       go (Is w) e lt =
           let test : ℕ → Bool = λ j. eqb (getD (phandleList b) j 0) w in

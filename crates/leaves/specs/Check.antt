@@ -8,27 +8,27 @@ use Rattle.laws.specs.Search.{placeIn}
 use Rattle.keys.specs.declared.Key.the-variants.{Cpu}
 use Rattle.keys.specs.Key.{cpuKey}
 use Rattle.keys.specs.Index.{keyAt}
-use Rattle.cpus.specs.declared.Cell.{Cell}
-use Rattle.cpus.specs.declared.Cell.the-variants as cell
+use Rattle.cpus.specs.declared.Value.{Value}
+use Rattle.cpus.specs.declared.Value.the-variants as cell
 use Rattle.cpus.specs.Cell.{cellIn, cellOf}
 use Rattle.topology.specs.Check.{recordShape}
 use Rattle.leaves.specs.declared.RecordCheck.{RecordCheck}
 
 -- the index of the phandle that a leaf's `cpu` holds, or their number where it holds none
-abbrev pub indexOf : List ℕ → Cell → ℕ
+abbrev pub indexOf : List ℕ → Value → ℕ
 indexOf phandles (cell.Is w) = placeIn phandles w
 indexOf phandles cell.Not = length phandles
 
 -- the same of leaf i, by the cells of the records' `cpu`
-unfoldable pub leafCpu : (ℕ → Cell) → List ℕ → ℕ → ℕ
+unfoldable pub leafCpu : (ℕ → Value) → List ℕ → ℕ → ℕ
 leafCpu cells phandles i = indexOf phandles (cells i)
 
 -- the cell of each record's `cpu`, looked up
-abbrev pub cpuCells : List ℕ → List ℕ → ℕ → Cell
+abbrev pub cpuCells : List ℕ → List ℕ → ℕ → Value
 cpuCells props pool i = cellOf props pool i cpuKey
 
 -- the same, by a table of keys
-abbrev pub keyCells : List ℕ → List ℕ → List ℕ → ℕ → Cell
+abbrev pub keyCells : List ℕ → List ℕ → List ℕ → ℕ → Value
 keyCells props pool keys i = cellIn props pool (keyAt keys i Cpu)
 
 abbrev pub broken : ℕ → ℕ → RecordCheck
@@ -39,7 +39,7 @@ abbrev pub leafCheck : ℕ → ℕ → RecordCheck
 leafCheck none k = cond (ltb k none) (record { number = 0; leaf = true; cpu = k }) (broken 24 none)
 
 -- what record i breaks of 18 to 24, and the cpu that it names where it is a leaf
-unfoldable pub recordCheck : List ℕ → (ℕ → Cell) → List ℕ → ℕ → List ℕ → ℕ → RecordCheck
+unfoldable pub recordCheck : List ℕ → (ℕ → Value) → List ℕ → ℕ → List ℕ → ℕ → RecordCheck
 recordCheck nodes cells pool map phandles i =
     let s = recordShape nodes pool map i in
     cond (s .leaf) (leafCheck (length phandles) (leafCpu cells phandles i)) (broken (s .number) (length phandles))

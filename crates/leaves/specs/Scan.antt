@@ -10,7 +10,7 @@ use Rattle.laws.specs.Search.{anyBelow, listBelow}
 use Rattle.laws.specs.Listed.{over, toldOf}
 use Rattle.tables.specs.Board.{Board, nodeCount}
 use Rattle.wellformed.specs.Limits.{maxNodes}
-use Rattle.cpus.specs.declared.Cell.{Cell}
+use Rattle.cpus.specs.declared.Value.{Value}
 use Rattle.cpus.specs.Rules.{maxCpus}
 use Rattle.cpus.specs.Check.{phandleList}
 use Rattle.leaves.specs.declared.RecordCheck.{RecordCheck}
@@ -21,12 +21,12 @@ use Rattle.leaves.specs.Check.{recordCheck, cpuCells, keyCells}
 -- The tables, the cells of the records' `cpu`, the map's record and the cpu records' phandles.
 pub record Tree : Type 0 where
   pub nodes : List ℕ
-  pub cells : ℕ → Cell
+  pub cells : ℕ → Value
   pub pool : List ℕ
   pub root : ℕ
   pub phandles : List ℕ
 
-abbrev pub tree : List ℕ → (ℕ → Cell) → List ℕ → ℕ → List ℕ → Tree
+abbrev pub tree : List ℕ → (ℕ → Value) → List ℕ → ℕ → List ℕ → Tree
 tree nodes cells pool root phandles = record { nodes = nodes; cells = cells; pool = pool; root = root; phandles = phandles }
 
 abbrev pub check : Tree → ℕ → RecordCheck

@@ -1,6 +1,6 @@
 // Leaves of the map and the cpus that they name: rule 24.
 use crate::RecordCheck;
-use cpus::Cell;
+use cpus::Value;
 use cpus::cell_in;
 use keys::KEY_WORDS;
 use keys::Key;
@@ -10,12 +10,12 @@ use laws::place_in;
 ghost use mathlib.Core.Path.{_≡_};
 ghost use Rattle.leaves.specs.Check.{indexOf, leafCpu, keyCells, broken, leafCheck};
 
-fn index_of(phandles: &[u64], cell: Cell) -> usize
+fn index_of(phandles: &[u64], cell: Value) -> usize
     ensures { λ r. ⌜ r ≡ indexOf (now (phandles .entry)) cell ⌝ }
 {
     match cell {
-        Cell::Is(word) => place_in(phandles, word as u64),
-        Cell::Not => phandles.len(),
+        Value::Is(word) => place_in(phandles, word),
+        Value::Not => phandles.len(),
     }
 }
 

@@ -17,10 +17,10 @@ use Rattle.wellformed.specs.Rules.{WellFormed}
 use Rattle.wellformed.specs.Check.{tableFault}
 use Rattle.wellformed.proofs.RuleLaws.{table-sound}
 use Rattle.cpus.specs.Rules.{maxCpus}
-use Rattle.cpus.specs.Check.{rootFault, addressCells, cpuCount, cpuList, countFault, cpuFault, phandlesFault, phandleList, mpidrList}
+use Rattle.cpus.specs.Check.{rootNumber, rootFault, cellsOf, regCells, cpuCount, cpuList, countFault, cpuFault, phandlesFault, phandleList, mpidrList}
+use Rattle.cpus.specs.declared.RootCells.{RootCells}
 use Rattle.cpus.specs.declared.Wanted.the-variants.{Mpidrs, Phandles}
-use Rattle.cpus.proofs.CpuMeans.{cpu-count}
-use Rattle.cpus.proofs.RootLaws.{count-fits, cells-broken, cells-sound}
+use Rattle.cpus.proofs.CpuMeans.{cpu-count, count-fits}
 use Rattle.topology.specs.declared.MapScan.{MapScan}
 use Rattle.leaves.specs.declared.TreeScan.{TreeScan}
 use Rattle.topology.specs.Find.{mapOf}
@@ -53,13 +53,13 @@ b1 c = let a = c .before .before .before .before .args in board (a .width) (a .n
 abbrev b2 : tie.Else1 → Board
 b2 c = b1 (c .before .before)
 
-abbrev b3 : tie.Else2 → Board
-b3 c = b2 (c .before .before)
+abbrev b3 : tie.After-known-told → Board
+b3 c = b2 (c .before .before .before .before)
 
 abbrev b4 : tie.After-count-fault → Board
 b4 c = b3 (c .before .before .before)
 
-abbrev at-count : tie.After-read-numbers → tie.Else3
+abbrev at-count : tie.After-read-numbers → tie.Else2
 at-count c = c .before .before .before .before .before .before .before .before
 
 abbrev b5 : tie.After-read-numbers → Board
@@ -75,7 +75,7 @@ abbrev b8 : tie.After-read-tree → Board
 b8 c = b7 (c .before .before .before .before .before .before .before .before)
 
 abbrev start : tie.After-count-fault → tie.Start
-start c = c .before .before .before .before .before .before .before .before .before .before .before
+start c = c .before .before .before .before .before .before .before .before .before .before .before .before .before
 
 -- rules 1 to 8
 clear-tables : (c : tie.Else1) → tableFault (b2 c) .number ≡ 0
@@ -88,31 +88,32 @@ rest-1 : (c : tie.Else1) → surveyFault (b2 c) ≡ fromRoot (b2 c)
 rest-1 c = survey-stages (b2 c) ∙ or-second (tableFault (b2 c)) _ (clear-tables c)
 
 -- rule 9
-cells-are : (c : tie.Else2) → (rootFault (b3 c) ≡ 0) × (c .before .read-cells .result ≡ addressCells (b3 c))
-cells-are c =
-    let is = c .before .read-cells .ensures in
-    let sound = cells-sound (b3 c) (λ z. c .if2 .left (is ∙ z)) in
-    (sound .0, is ∙ sound .1)
+sound-root : (c : tie.After-known-told) → rootFault (b3 c) ≡ 0
+sound-root c = ap rootNumber (sym (c .before .before .before .read-cells .ensures) ∙ c .before .cells .given .1)
 
-rest-2 : (c : tie.Else2) → surveyFault (b3 c) ≡ fromCount (b3 c)
-rest-2 c = rest-1 (c .before .before) ∙ or-second (told (rootFault (b3 c)) 0) _ (told-number _ 0 ∙ cells-are c .0)
+cells-are : (c : tie.After-known-told) → Mpidrs (c .before .cells .given .0 .0) ≡ Mpidrs (regCells (b3 c))
+cells-are c = ap (λ (r : RootCells). Mpidrs (cellsOf r)) (sym (c .before .cells .given .1) ∙ c .before .before .before .read-cells .ensures)
+
+rest-2 : (c : tie.After-known-told) → surveyFault (b3 c) ≡ fromCount (b3 c)
+rest-2 c = rest-1 (c .before .before .before .before) ∙ or-second (told (rootFault (b3 c)) 0) _ (told-number _ 0 ∙ sound-root c)
 
 -- rule 10
 counted : (c : tie.After-count-fault) → c .count-fault .result ≡ countFault (cpuCount (b4 c))
 counted c = c .count-fault .ensures ∙ ap countFault (c .before .list-cpus .ensures .0)
 
-rest-3 : (c : tie.Else3) → surveyFault (b4 (c .before)) ≡ fromCpus (b4 (c .before))
+rest-3 : (c : tie.Else2) → surveyFault (b4 (c .before)) ≡ fromCpus (b4 (c .before))
 rest-3 c =
     let b = b4 (c .before) in
-    rest-2 (c .before .before .before .before) ∙ or-second (told (countFault (cpuCount b)) 0) _ (told-number _ 0 ∙ sym (counted (c .before)) ∙ c .if3 .left)
+    rest-2 (c .before .before .before .before)
+    ∙ or-second (told (countFault (cpuCount b)) 0) _ (told-number _ 0 ∙ sym (counted (c .before)) ∙ c .if2 .left)
 
-few : (c : tie.Else3) → cpuCount (b4 (c .before)) ≤ maxCpus
-few c = count-fits (cpuCount (b4 (c .before))) (sym (counted (c .before)) ∙ c .if3 .left)
+few : (c : tie.Else2) → cpuCount (b4 (c .before)) ≤ maxCpus
+few c = count-fits (cpuCount (b4 (c .before))) (sym (counted (c .before)) ∙ c .if2 .left)
 
-listed-few : (c : tie.Else3) → length (cpuList (b4 (c .before))) ≤ maxCpus
+listed-few : (c : tie.Else2) → length (cpuList (b4 (c .before))) ≤ maxCpus
 listed-few c = omega (arith, few c, cpu-count (b4 (c .before)))
 
-count-is : (c : tie.Else3) → c .before .before .list-cpus .result ≡ length (cpuList (b4 (c .before)))
+count-is : (c : tie.Else2) → c .before .before .list-cpus .result ≡ length (cpuList (b4 (c .before)))
 count-is c = c .before .before .list-cpus .ensures .0 ∙ cpu-count (b4 (c .before))
 
 -- the cpu records, as the lent array has them
@@ -138,6 +139,11 @@ module _ (c : tie.After-whole2) where
   listed-is : take count array ≡ cpuList (b4 (c .before .before .before))
   listed-is = front-is _ _ laid (count-is (c .before .before)) room
 
+  -- none is cut off where there is room for 256
+  all-listed : (n : ℕ) → maxCpus ≤ n → take n (take count array) ≡ cpuList (b4 (c .before .before .before))
+  all-listed n le =
+      take-all n (take count array) (omega (arith, listed-size, count-is (c .before .before), listed-few (c .before .before))) ∙ listed-is
+
 -- rules 11 to 13
 module _ (c : tie.After-read-numbers) where
   abbrev indexed : tie.After-index-keys
@@ -147,31 +153,37 @@ module _ (c : tie.After-read-numbers) where
   wholes = indexed .before .before .before
 
   well-5 : WellFormed (b5 c)
-  well-5 = well (at-count c .before .before .before .before .before .before)
+  well-5 = well (at-count c .before .before .before .before .before .before .before .before)
 
-  abbrev kept-9 : tie.Else2
+  abbrev kept-9 : tie.After-known-told
   kept-9 = at-count c .before .before .before .before
 
+  abbrev mpidrs : List ℕ
+  mpidrs = start (at-count c .before) .args .mpidrs .now
+
+  cpus-listed : take (length mpidrs) (take (count wholes) (array wholes)) ≡ cpuList (b5 c)
+  cpus-listed = all-listed wholes (length mpidrs) (omega (arith, c .before .read-numbers-arg .given .0 .1))
+
   mpidr-fault : c .read-numbers .result ≡ cpuFault (b5 c)
-  mpidr-fault = c .read-numbers .ensures .0 ∙ numbers-stage (b5 c) well-5 (indexed .index-keys .ensures) (listed-is wholes) (ap Mpidrs (cells-are kept-9 .1)) 13
+  mpidr-fault = c .read-numbers .ensures .0 ∙ numbers-stage (b5 c) well-5 (indexed .index-keys .ensures) cpus-listed (cells-are kept-9) 13
 
-  mpidrs-laid : cpuFault (b5 c) .number ≡ 0 → c .read-numbers .last .1 .1 .1 .1 .1 .0 ≡ over (mpidrList (b5 c)) (start (at-count c .before) .args .mpidrs .now)
-  mpidrs-laid z = c .read-numbers .ensures .1 ∙ numbers-found (b5 c) well-5 (indexed .index-keys .ensures) (listed-is wholes) (ap Mpidrs (cells-are kept-9 .1)) 13 _ z
+  mpidrs-laid : cpuFault (b5 c) .number ≡ 0 → c .read-numbers .last .1 .1 .1 .1 .1 .0 ≡ over (mpidrList (b5 c)) mpidrs
+  mpidrs-laid z = c .read-numbers .ensures .1 ∙ numbers-found (b5 c) well-5 (indexed .index-keys .ensures) cpus-listed (cells-are kept-9) 13 _ z
 
-clear-mpidrs : (c : tie.Else4) → cpuFault (b5 (c .before .before)) .number ≡ 0
-clear-mpidrs c = ap (λ (f : Fault). f .number) (sym (mpidr-fault (c .before .before))) ∙ c .if4 .left
+clear-mpidrs : (c : tie.Else3) → cpuFault (b5 (c .before .before)) .number ≡ 0
+clear-mpidrs c = ap (λ (f : Fault). f .number) (sym (mpidr-fault (c .before .before))) ∙ c .if3 .left
 
-rest-4 : (c : tie.Else4) → surveyFault (b5 (c .before .before)) ≡ fromMap (b5 (c .before .before))
+rest-4 : (c : tie.Else3) → surveyFault (b5 (c .before .before)) ≡ fromMap (b5 (c .before .before))
 rest-4 c = rest-3 (at-count (c .before .before)) ∙ or-second (cpuFault (b5 (c .before .before))) _ (clear-mpidrs c)
 
 -- rules 15 and 16
 map-fault : (c : tie.After-find-map) → c .find-map .result .number ≡ mapStage (b6 c) .number
 map-fault c = ap (λ (r : MapScan). r .number) (c .find-map .ensures) ∙ map-number (b6 c .nodes) (b6 c .pool)
 
-clear-map : (c : tie.Else5) → mapStage (b6 (c .before .before)) .number ≡ 0
-clear-map c = sym (map-fault (c .before .before)) ∙ c .if5 .left
+clear-map : (c : tie.Else4) → mapStage (b6 (c .before .before)) .number ≡ 0
+clear-map c = sym (map-fault (c .before .before)) ∙ c .if4 .left
 
-rest-5 : (c : tie.Else5) → surveyFault (b6 (c .before .before)) ≡ fromPhandles (b6 (c .before .before))
+rest-5 : (c : tie.Else4) → surveyFault (b6 (c .before .before)) ≡ fromPhandles (b6 (c .before .before))
 rest-5 c = rest-4 (c .before .before .before) ∙ or-second (mapStage (b6 (c .before .before))) _ (clear-map c)
 
 -- rule 17
@@ -179,20 +191,24 @@ module _ (c : tie.After-read-numbers2) where
   abbrev read : tie.After-read-numbers
   read = c .before .before .before .before .before .before .before .before
 
+  all-cpus : take 256 (take (count (wholes read)) (array (wholes read))) ≡ cpuList (b7 c)
+  all-cpus = all-listed (wholes read) 256 (omega arith)
+
   phandle-fault : c .read-numbers2 .result ≡ phandlesFault (b7 c)
-  phandle-fault = c .read-numbers2 .ensures .0 ∙ numbers-stage (b7 c) (well-5 read) (indexed read .index-keys .ensures) (listed-is (wholes read)) {wanted = Phandles} refl 17
+  phandle-fault =
+      c .read-numbers2 .ensures .0 ∙ numbers-stage (b7 c) (well-5 read) (indexed read .index-keys .ensures) all-cpus {wanted = Phandles} refl 17
 
   phandles-laid : phandlesFault (b7 c) .number ≡ 0 → c .read-numbers2 .last .1 .1 .1 .1 .1 .0 ≡ over (phandleList (b7 c)) (replicate 256 0)
   phandles-laid z =
-      c .read-numbers2 .ensures .1 ∙ numbers-found (b7 c) (well-5 read) (indexed read .index-keys .ensures) (listed-is (wholes read)) {wanted = Phandles} refl 17 _ z
+      c .read-numbers2 .ensures .1 ∙ numbers-found (b7 c) (well-5 read) (indexed read .index-keys .ensures) all-cpus {wanted = Phandles} refl 17 _ z
 
-clear-phandles : (c : tie.Else6) → phandlesFault (b7 (c .before .before .before)) .number ≡ 0
-clear-phandles c = ap (λ (f : Fault). f .number) (sym (phandle-fault (c .before .before .before))) ∙ c .if6 .left
+clear-phandles : (c : tie.Else5) → phandlesFault (b7 (c .before .before .before)) .number ≡ 0
+clear-phandles c = ap (λ (f : Fault). f .number) (sym (phandle-fault (c .before .before .before))) ∙ c .if5 .left
 
-rest-6 : (c : tie.Else6) → surveyFault (b7 (c .before .before .before)) ≡ leavesFault (treeOf (b7 (c .before .before .before))) (cpuList (b7 (c .before .before .before)))
+rest-6 : (c : tie.Else5) → let b = b7 (c .before .before .before) in surveyFault b ≡ leavesFault (treeOf b) (cpuList b)
 rest-6 c = rest-5 (c .before .before .before .before .before .before) ∙ or-second (phandlesFault (b7 (c .before .before .before))) _ (clear-phandles c)
 
-module _ (c : tie.Else6) where
+module _ (c : tie.Else5) where
   abbrev asked : tie.After-read-numbers2
   asked = c .before .before .before
 
@@ -207,7 +223,7 @@ module _ (c : tie.Else6) where
 
 -- rules 18 to 26
 module _ (c : tie.After-read-tree) where
-  abbrev e6 : tie.Else6
+  abbrev e6 : tie.Else5
   e6 = c .before .before .before .before .before
 
   abbrev found : tie.After-find-map
@@ -245,12 +261,12 @@ module _ (c : tie.After-read-tree) where
   tree-place : c .read-tree .result .place ≡ leavesFault (treeOf (b8 c)) (cpuList (b8 c)) .place
   tree-place = ap (λ (r : TreeScan). r .place) scanned
 
-module _ (c : tie.Else7) where
+module _ (c : tie.Else6) where
   abbrev call : tie.After-read-tree
   call = c .before .before
 
   clear-tree : leavesFault (treeOf (b8 call)) (cpuList (b8 call)) .number ≡ 0
-  clear-tree = sym (tree-number call) ∙ c .if7 .left
+  clear-tree = sym (tree-number call) ∙ c .if6 .left
 
   leaves-laid : call .read-tree .last .1 .1 .1 .1 .1 .1 .1 .0 ≡ over (leavesOf (b8 call)) (start (at-count (keyed call) .before) .args .leaves .now)
   leaves-laid = call .read-tree .ensures .1 .0 ∙ ap (λ (t : Tree). leavesOver t (start (at-count (keyed call) .before) .args .leaves .now)) (tree-here call) ∙ leaves-listed (treeOf (b8 call)) (cpuList (b8 call)) clear-tree _
@@ -281,14 +297,20 @@ returns c =
 read-cells-requires : tie.Need-read-cells-requires
 read-cells-requires c κs = search needs
 
+enum-known-cells : tie.Need-enum-known-cells
+enum-known-cells c = search needs
+
+enum-told : tie.Need-enum-told
+enum-told c = search needs
+
 stop-requires-2 : tie.Need-stop-requires-2
 stop-requires-2 c κs = search needs
 
 returns-2 : tie.Need-returns-2
 returns-2 c =
-    let call = c .before .before in
+    let call = c .before .before .before in
     let b = b2 (call .before) in
-    let nine = cells-broken b (sym (call .read-cells .ensures) ∙ c .before .if2 .taken) in
+    let nine = ap rootNumber (sym (call .read-cells .ensures) ∙ c .before .enum-told .given .1) in
     tells-first b (told (rootFault b) 0) _ (rest-1 (call .before)) (c .stop2 .ensures) (λ z. omega arith) (rw nine) (rw nine)
 
 list-cpus-requires : tie.Need-list-cpus-requires
@@ -304,7 +326,9 @@ returns-3 : tie.Need-returns-3
 returns-3 c =
     let call = c .before .before in
     let b = b4 call in
-    tells-first b (told (countFault (cpuCount b)) 0) _ (rest-2 (call .before .before .before)) (c .stop3 .ensures) (c .before .if3 .taken) (counted call ∙ sym (told-number _ 0)) (told-at-zero (countFault (cpuCount b)))
+    tells-first b (told (countFault (cpuCount b)) 0) _ (rest-2 (call .before .before .before)) (c .stop3 .ensures) (c .before .if2 .taken)
+    (counted call ∙ sym (told-number _ 0))
+    (told-at-zero (countFault (cpuCount b)))
 
 slice-aggregate-listed : tie.Need-slice-aggregate-listed
 slice-aggregate-listed c = listed-size (c .before)
@@ -313,9 +337,7 @@ index-keys-requires : tie.Need-index-keys-requires
 index-keys-requires c κs = search needs
 
 read-numbers-requires : tie.Need-read-numbers-requires
-read-numbers-requires c κs =
-    let w = c .before .before .before .before .before in
-    omega (arith, listed-size w, count-is (w .before .before), listed-few (w .before .before), c .read-numbers-arg .given .0 .1)
+read-numbers-requires c κs = search needs
 
 stop-requires-4 : tie.Need-stop-requires-4
 stop-requires-4 c κs = search needs
@@ -324,7 +346,9 @@ returns-4 : tie.Need-returns-4
 returns-4 c =
     let call = c .before .before .before in
     let is = mpidr-fault call in
-    tells-first (b5 call) (cpuFault (b5 call)) _ (rest-3 (at-count call)) (c .stop4 .ensures) (c .before .if4 .taken) (ap (λ (f : Fault). f .number) is) (ap (λ (f : Fault). f .place) is)
+    tells-first (b5 call) (cpuFault (b5 call)) _ (rest-3 (at-count call)) (c .stop4 .ensures) (c .before .if3 .taken)
+    (ap (λ (f : Fault). f .number) is)
+    (ap (λ (f : Fault). f .place) is)
 
 find-map-requires : tie.Need-find-map-requires
 find-map-requires c κs = search needs
@@ -336,16 +360,15 @@ returns-5 : tie.Need-returns-5
 returns-5 c =
     let call = c .before .before .before in
     let b = b6 call in
-    let place = ap (λ (r : MapScan). r .place) (call .find-map .ensures) ∙ map-place (b .nodes) (b .pool) (λ z. c .before .if5 .taken (map-fault call ∙ z)) in
-    tells-first b (mapStage b) _ (rest-4 (call .before)) (c .stop5 .ensures) (c .before .if5 .taken) (map-fault call) place
+    let ne : mapStage b .number ≡ 0 → ⊥ = λ z. c .before .if4 .taken (map-fault call ∙ z) in
+    let place = ap (λ (r : MapScan). r .place) (call .find-map .ensures) ∙ map-place (b .nodes) (b .pool) ne in
+    tells-first b (mapStage b) _ (rest-4 (call .before)) (c .stop5 .ensures) (c .before .if4 .taken) (map-fault call) place
 
 slice-aggregate-read-numbers : tie.Need-slice-aggregate-read-numbers
 slice-aggregate-read-numbers c = search needs
 
 read-numbers-requires-2 : tie.Need-read-numbers-requires-2
-read-numbers-requires-2 c κs =
-    let first = c .before .before .before .before .before .before .before in
-    omega (arith, listed-size (wholes first), count-is (at-count first), listed-few (at-count first), length-replicate {A = ℕ} 256 0)
+read-numbers-requires-2 c κs = search needs
 
 stop-requires-6 : tie.Need-stop-requires-6
 stop-requires-6 c κs = search needs
@@ -354,7 +377,9 @@ returns-6 : tie.Need-returns-6
 returns-6 c =
     let call = c .before .before .before .before in
     let is = phandle-fault call in
-    tells-first (b7 call) (phandlesFault (b7 call)) _ (rest-5 (call .before .before .before)) (c .stop6 .ensures) (c .before .if6 .taken) (ap (λ (f : Fault). f .number) is) (ap (λ (f : Fault). f .place) is)
+    tells-first (b7 call) (phandlesFault (b7 call)) _ (rest-5 (call .before .before .before)) (c .stop6 .ensures) (c .before .if5 .taken)
+    (ap (λ (f : Fault). f .number) is)
+    (ap (λ (f : Fault). f .place) is)
 
 array-share-prefix-phandles : tie.Need-array-share-prefix-phandles
 array-share-prefix-phandles c = let e = c .before in front-fits _ _ (phandles-laid (asked e) (clear-phandles e)) (as-many e) (few-phandles e)
@@ -371,7 +396,7 @@ stop-requires-7 c κs = search needs
 returns-7 : tie.Need-returns-7
 returns-7 c =
     let call = c .before .before .before in
-    tells (b8 call) (rest-6 (e6 call)) (c .stop7 .ensures) (c .before .if7 .taken) (tree-number call) (tree-place call)
+    tells (b8 call) (rest-6 (e6 call)) (c .stop7 .ensures) (c .before .if6 .taken) (tree-number call) (tree-place call)
 
 returns-8 : tie.Need-returns-8
 returns-8 c =
@@ -395,6 +420,8 @@ survey-spec =
     stop-requires
     returns
     read-cells-requires
+    enum-known-cells
+    enum-told
     stop-requires-2
     returns-2
     list-cpus-requires

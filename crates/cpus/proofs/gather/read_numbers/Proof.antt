@@ -1,9 +1,10 @@
 -- `read_numbers` meets its contract: the pass holds before each record. Assumes nothing.
 use mathlib.Core.Path.{_≡_, refl, sym}
-use Prim.Native.Nat.{_-_, _≤_}
+use Prim.Native.Nat.{_-_}
 use native.Mathlib.Omega.{arith}
 use lib.ListN.{length}
 use lib.Seq.{length-take-le}
+use borrow.Author.Tests.{ltb-true, ltb-false}
 use Rattle.cpus.specs.Gather.{readingAt, repeatRule}
 use Rattle.cpus.proofs.GatherLaws.{Pass, pass-start, pass-length, pass-next, pass-told, pass-end}
 use borrow.Author.Needs.{needs}
@@ -12,16 +13,13 @@ use Rattle.cpus.proofs.gather.read_numbers.Tie as tie
 
 abbrev Inv-loop : tie.InvT-loop
 Inv-loop wanted props pool keys records values₀ k₀ values k =
-    (k ≤ length records) × (length values ≡ length values₀) × Pass (readingAt wanted props pool keys) (repeatRule wanted) records values₀ k values
+    (length values ≡ length values₀) × Pass (readingAt wanted props pool keys) (repeatRule wanted) records values₀ k values
 
 abbrev μ-loop : tie.MeasureT-loop
-μ-loop wanted props pool keys records values₀ k₀ values k = length records - k
-
-room : (c : tie.At-loop Inv-loop μ-loop) → let a = c .before .before .before .before .before .args in length (a .records .now) ≤ length (a .values .now)
-room c = c .before .before .before .before .before .pre
+μ-loop wanted props pool keys records values₀ k₀ values k = length values₀ - k
 
 loop-holds : tie.Need-loop-holds Inv-loop μ-loop
-loop-holds c = (omega arith, refl, pass-start _ _ _ _)
+loop-holds c = (refl, pass-start _ _ _ _)
 
 mul-i : tie.Need-mul-i Inv-loop μ-loop
 mul-i c = search needs
@@ -34,7 +32,7 @@ slice-reshare-prefix-next-reading c = search needs
 
 slice-aggregate-next-reading : tie.Need-slice-aggregate-next-reading Inv-loop μ-loop
 slice-aggregate-next-reading c =
-    let loop = c .before .before .before .loop in
+    let loop = c .before .before .before .before .loop in
     sym (length-take-le (loop .k) (loop .values) (omega arith))
 
 next-reading-requires : tie.Need-next-reading-requires Inv-loop μ-loop
@@ -47,7 +45,9 @@ returns : tie.Need-returns Inv-loop μ-loop
 returns c =
     let call = c .before .before in
     let test = call .before .before .before in
-    pass-told _ _ _ _ _ (test .before .loop .inv .2) (test .loop-test .taken) (room (test .before)) (call .next-reading .ensures) (c .if1 .taken)
+    let loop = test .before in
+    let pass = loop .before .loop .inv .1 in
+    pass-told _ _ _ _ _ pass (ltb-true _ _ (test .if1 .taken)) (loop .loop-test .taken) (call .next-reading .ensures) (c .if2 .taken)
 
 mul-values : tie.Need-mul-values Inv-loop μ-loop
 mul-values c = search needs
@@ -65,14 +65,22 @@ loop-again : tie.Need-loop-again Inv-loop μ-loop
 loop-again c =
     let call = c .before .before in
     let test = call .before .before .before in
-    let next = pass-next _ _ _ _ _ (test .before .loop .inv .2) (test .loop-test .taken) (room (test .before)) (call .next-reading .ensures) (c .if1 .left) in
-    (omega arith, pass-length _ _ _ _ next, next)
+    let loop = test .before in
+    let pass = loop .before .loop .inv .1 in
+    let next = pass-next _ _ _ _ _ pass (ltb-true _ _ (test .if1 .taken)) (loop .loop-test .taken) (call .next-reading .ensures) (c .if2 .left) in
+    (pass-length _ _ _ _ next, next)
 
 same-length-2 : tie.Need-same-length-2 Inv-loop μ-loop
 same-length-2 c = search needs
 
 returns-2 : tie.Need-returns-2 Inv-loop μ-loop
-returns-2 c = pass-end _ _ _ _ _ (c .before .loop .inv .2) (omega arith)
+returns-2 c = pass-end _ _ _ _ _ (c .before .before .loop .inv .1) (omega (arith, ltb-false))
+
+same-length-3 : tie.Need-same-length-3 Inv-loop μ-loop
+same-length-3 c = search needs
+
+returns-3 : tie.Need-returns-3 Inv-loop μ-loop
+returns-3 c = pass-end _ _ _ _ _ (c .before .loop .inv .1) (omega arith)
 
 pub read-numbers-spec : {M : Type 1} → statement M
 read-numbers-spec =
@@ -94,4 +102,6 @@ read-numbers-spec =
     loop-less
     loop-again
     same-length-2
-    returns-2)
+    returns-2
+    same-length-3
+    returns-3)

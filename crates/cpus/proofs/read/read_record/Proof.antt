@@ -1,12 +1,6 @@
 -- `read_record` meets its contract: each answer is the definition's for what is wanted. Assumes nothing.
-use mathlib.Core.Path.{_≡_, sym, ap, _∙_}
-use native.Mathlib.Omega.{arith}
-use Rattle.keys.specs.Index.{keyAt}
-use Rattle.keys.specs.declared.Key.the-variants.{DeviceType}
-use Rattle.cpus.specs.Words.{cpuString}
-use Rattle.cpus.specs.Cell.{cellIn, valueIn, isCpuString}
+use mathlib.Core.Path.{sym, _∙_}
 use Rattle.cpus.specs.Gather.{readingFrom}
-use Rattle.cpus.proofs.CodeLaws.{string-cell}
 use borrow.Author.Needs.{needs}
 use Rattle.cpus.proofs.read.read_record.Statement.{statement}
 use Rattle.cpus.proofs.read.read_record.Tie as tie
@@ -26,8 +20,8 @@ cell-in-requires c κs = search needs
 phandle-in-requires : tie.Need-phandle-in-requires
 phandle-in-requires c κs = search needs
 
-phandle-reading-requires : tie.Need-phandle-reading-requires
-phandle-reading-requires c κs = search needs
+number-or-requires : tie.Need-number-or-requires
+number-or-requires c κs = search needs
 
 returns : tie.Need-returns
 unfolding readingFrom
@@ -38,7 +32,7 @@ returns c =
       ← cell .before .find-key .ensures,
       ← cell .cell-in .ensures,
       ← c .before .phandle-in .ensures,
-    ) (c .phandle-reading .ensures)
+    ) (c .number-or .ensures)
 
 find-key-requires-2 : tie.Need-find-key-requires-2
 find-key-requires-2 c κs = search needs
@@ -46,47 +40,51 @@ find-key-requires-2 c κs = search needs
 cell-in-requires-2 : tie.Need-cell-in-requires-2
 cell-in-requires-2 c κs = search needs
 
-is-cpu-string-requires : tie.Need-is-cpu-string-requires
-is-cpu-string-requires c κs = search needs
+is-number-requires : tie.Need-is-number-requires
+is-number-requires c κs = search needs
 
 find-key-requires-3 : tie.Need-find-key-requires-3
 find-key-requires-3 c κs = search needs
 
-mpidr-in-requires : tie.Need-mpidr-in-requires
-mpidr-in-requires c κs = search needs
+value-in-requires : tie.Need-value-in-requires
+value-in-requires c κs = search needs
 
-mpidr-reading-requires : tie.Need-mpidr-reading-requires
-mpidr-reading-requires c κs = search needs
+affine-only-requires : tie.Need-affine-only-requires
+affine-only-requires c κs = search needs
 
--- the test of the cell is that of the device type
-typed :
-    (c : tie.After-is-cpu-string) →
-    let a = c .before .before .before .before .before .before .before .before .args in
-    c .is-cpu-string .result ≡ valueIn (a .props .now) (a .pool .now) cpuString (keyAt (a .keys .now) (a .i) DeviceType)
-typed c =
-    let known = c .before .before .before .before .before .before in
-    let a = known .before .before .args in
-    c .is-cpu-string .ensures
-    ∙ ap isCpuString (c .before .cell-in2 .ensures ∙ ap (cellIn (a .props .now) (a .pool .now)) (c .before .before .find-key2 .ensures))
-    ∙ string-cell (a .props .now) (a .pool .now) (λ i. omega (arith, known .shared-slice-known2 .given i)) (keyAt (a .keys .now) (a .i) DeviceType)
+number-or-requires-2 : tie.Need-number-or-requires-2
+number-or-requires-2 c κs = search needs
 
 returns-2 : tie.Need-returns-2
 unfolding readingFrom
 returns-2 c =
-    let test = c .before .before .before in
-    let known = test .before .before .before .before in
+    let value = c .before .before in
+    let test = value .before .before in
+    let kind = test .before .before in
     rw (
-      known .before .wanted .given .1,
-      sym (typed (test .before)) ∙ test .if1 .taken,
-      ← c .before .before .find-key3 .ensures,
-      ← c .before .mpidr-in .ensures,
-    ) (c .mpidr-reading .ensures)
+      kind .before .before .before .wanted .given .1,
+      ← kind .before .find-key2 .ensures,
+      ← kind .cell-in2 .ensures,
+      sym (test .before .is-number .ensures) ∙ test .if1 .taken,
+      ← value .before .find-key3 .ensures,
+      ← value .value-in .ensures,
+      ← c .before .affine-only .ensures,
+    ) (c .number-or2 .ensures)
+
+number-or-requires-3 : tie.Need-number-or-requires-3
+number-or-requires-3 c κs = search needs
 
 returns-3 : tie.Need-returns-3
 unfolding readingFrom
 returns-3 c =
-    let known = c .before .before .before .before in
-    rw (known .before .wanted .given .1, sym (typed (c .before)) ∙ c .if1 .left)
+    let test = c .before in
+    let kind = test .before .before in
+    rw (
+      kind .before .before .before .wanted .given .1,
+      ← kind .before .find-key2 .ensures,
+      ← kind .cell-in2 .ensures,
+      sym (test .before .is-number .ensures) ∙ test .if1 .left,
+    ) (c .number-or3 .ensures)
 
 pub read-record-spec : {M : Type 1} → statement M
 read-record-spec =
@@ -97,13 +95,15 @@ read-record-spec =
     find-key-requires
     cell-in-requires
     phandle-in-requires
-    phandle-reading-requires
+    number-or-requires
     returns
     find-key-requires-2
     cell-in-requires-2
-    is-cpu-string-requires
+    is-number-requires
     find-key-requires-3
-    mpidr-in-requires
-    mpidr-reading-requires
+    value-in-requires
+    affine-only-requires
+    number-or-requires-2
     returns-2
+    number-or-requires-3
     returns-3)

@@ -1,9 +1,7 @@
 -- `read_cells` meets its contract: each answer is the definition's at what its tests give. Assumes nothing.
 use mathlib.Core.Path.{sym, _∙_}
 use borrow.Author.Tests.{not-true, not-false}
-use Rattle.tables.specs.Board.{board}
-use Rattle.cpus.specs.Check.{soundCells, rootFault, addressCells}
-use Rattle.cpus.proofs.CodeLaws.{allowed-cells, other-cells}
+use Rattle.cpus.specs.Check.{soundCells, addressCells}
 use borrow.Author.Needs.{needs}
 use Rattle.cpus.proofs.root.read_cells.Statement.{statement}
 use Rattle.cpus.proofs.root.read_cells.Tie as tie
@@ -15,7 +13,7 @@ name-is-requires : tie.Need-name-is-requires
 name-is-requires c κs = search needs
 
 returns : tie.Need-returns
-unfolding soundCells rootFault
+unfolding soundCells
 returns c = rw (sym (c .before .name-is .ensures) ∙ not-true _ (c .if1 .taken))
 
 slice-aggregate-cell-of : tie.Need-slice-aggregate-cell-of
@@ -24,8 +22,8 @@ slice-aggregate-cell-of c = search needs
 cell-of-requires : tie.Need-cell-of-requires
 cell-of-requires c κs = search needs
 
-is-zero-cell-requires : tie.Need-is-zero-cell-requires
-is-zero-cell-requires c κs = search needs
+is-number-requires : tie.Need-is-number-requires
+is-number-requires c κs = search needs
 
 slice-aggregate-cell-of-2 : tie.Need-slice-aggregate-cell-of-2
 slice-aggregate-cell-of-2 c = search needs
@@ -37,27 +35,26 @@ cells-for-requires : tie.Need-cells-for-requires
 cells-for-requires c κs = search needs
 
 returns-2 : tie.Need-returns-2
-unfolding soundCells rootFault addressCells
+unfolding soundCells addressCells
 returns-2 c =
     let zero = c .before .before .before in
     let name = zero .before .before .before .before in
     rw (
       sym (name .before .name-is .ensures) ∙ not-false _ (name .if1 .left),
       ← zero .before .before .cell-of .ensures,
-      sym (zero .before .is-zero-cell .ensures) ∙ zero .if2 .taken,
+      sym (zero .before .is-number .ensures) ∙ zero .if2 .taken,
       ← c .before .cell-of2 .ensures,
-    ) (c .cells-for .ensures ∙ allowed-cells _)
+    ) (c .cells-for .ensures)
 
 returns-3 : tie.Need-returns-3
-unfolding soundCells rootFault
+unfolding soundCells
 returns-3 c =
     let name = c .before .before .before .before in
-    let a = name .before .before .before .before .before .before .args in
     rw (
       sym (name .before .name-is .ensures) ∙ not-false _ (name .if1 .left),
       ← c .before .before .cell-of .ensures,
-      sym (c .before .is-zero-cell .ensures) ∙ c .if2 .left,
-    ) (other-cells (addressCells (board (a .width) (a .nodes .now) (a .props .now) (a .pool .now))))
+      sym (c .before .is-number .ensures) ∙ c .if2 .left,
+    )
 
 pub read-cells-spec : {M : Type 1} → statement M
 read-cells-spec =
@@ -68,7 +65,7 @@ read-cells-spec =
     returns
     slice-aggregate-cell-of
     cell-of-requires
-    is-zero-cell-requires
+    is-number-requires
     slice-aggregate-cell-of-2
     cell-of-requires-2
     cells-for-requires

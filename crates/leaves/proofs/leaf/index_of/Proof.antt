@@ -6,9 +6,6 @@ use Rattle.leaves.proofs.leaf.index_of.Tie as tie
 enum-known-cell : tie.Need-enum-known-cell
 enum-known-cell c = search needs
 
-cast-place-in : tie.Need-cast-place-in
-cast-place-in c = search needs
-
 place-in-requires : tie.Need-place-in-requires
 place-in-requires c κs = search needs
 
@@ -23,4 +20,4 @@ returns-2 c = rw (c .enum-told .given .1)
 
 pub index-of-spec : {M : Type 1} → statement M
 index-of-spec =
-    tie.close (tie.spec enum-known-cell cast-place-in place-in-requires enum-told returns returns-2)
+    tie.close (tie.spec enum-known-cell place-in-requires enum-told returns returns-2)

@@ -1,9 +1,11 @@
--- `cell_in` meets its contract: each answer is the definition's at what was found. Assumes nothing.
+-- `value_in` meets its contract: each answer is the definition's at what was found. Assumes nothing.
 use mathlib.Core.Path.{sym, ap, _∙_}
-use Rattle.cpus.specs.declared.Cell.the-variants.{Is}
+use Rattle.cpus.specs.declared.Value.the-variants.{Is}
+use Rattle.cpus.specs.Cell.{sizeOf}
+use Rattle.cpus.proofs.ValueMeans.{sized-test}
 use borrow.Author.Needs.{needs}
-use Rattle.cpus.proofs.value.cell_in.Statement.{statement}
-use Rattle.cpus.proofs.value.cell_in.Tie as tie
+use Rattle.cpus.proofs.property.value_in.Statement.{statement}
+use Rattle.cpus.proofs.property.value_in.Tie as tie
 
 enum-known-found : tie.Need-enum-known-found
 enum-known-found c = search needs
@@ -20,8 +22,12 @@ has-cells-requires c κs = search needs
 prop-word-requires : tie.Need-prop-word-requires
 prop-word-requires c κs = search needs
 
-cell-at-requires : tie.Need-cell-at-requires
-cell-at-requires c κs = search needs
+cells-at-requires : tie.Need-cells-at-requires
+cells-at-requires c κs =
+    let test = c .before in
+    let a = test .before .before .before .before .before .before .before .args in
+    let sized = sym (test .before .has-cells .ensures) ∙ test .if1 .taken in
+    rw (c .prop-word .ensures) (sized-test (a .props .now) (a .pool .now) (sizeOf (a .cells)) _ .0 sized .1)
 
 returns-2 : tie.Need-returns-2
 returns-2 c =
@@ -30,13 +36,13 @@ returns-2 c =
       test .before .before .before .found .given .1,
       sym (test .before .has-cells .ensures) ∙ test .if1 .taken,
       ← c .before .prop-word .ensures,
-    ) (ap Is (c .cell-at .ensures))
+    ) (ap Is (c .cells-at .ensures))
 
 returns-3 : tie.Need-returns-3
 returns-3 c = rw (c .before .before .before .found .given .1, sym (c .before .has-cells .ensures) ∙ c .if1 .left)
 
-pub cell-in-spec : {M : Type 1} → statement M
-cell-in-spec =
+pub value-in-spec : {M : Type 1} → statement M
+value-in-spec =
     tie.close
     (tie.spec
     enum-known-found
@@ -44,6 +50,6 @@ cell-in-spec =
     returns
     has-cells-requires
     prop-word-requires
-    cell-at-requires
+    cells-at-requires
     returns-2
     returns-3)

@@ -1,8 +1,8 @@
 -- `cells_at` meets its contract. Assumes nothing.
-use borrow.Author.Tests.{eq-eqb, ne-eqb}
 use borrow.Author.Needs.{needs}
-use Rattle.cpus.proofs.value.cells_at.Statement.{statement}
-use Rattle.cpus.proofs.value.cells_at.Tie as tie
+use native.Mathlib.Omega.{arith}
+use Rattle.cpus.proofs.property.cells_at.Statement.{statement}
+use Rattle.cpus.proofs.property.cells_at.Tie as tie
 
 cell-at-requires : tie.Need-cell-at-requires
 cell-at-requires c κs = search needs
@@ -10,11 +10,17 @@ cell-at-requires c κs = search needs
 cast-first : tie.Need-cast-first
 cast-first c = search needs
 
+enum-told : tie.Need-enum-told
+enum-told c = search needs
+
+enum-told-2 : tie.Need-enum-told-2
+enum-told-2 c = search needs
+
 mul-result : tie.Need-mul-result
 mul-result c = search needs
 
 add-cell-at : tie.Need-add-cell-at
-add-cell-at c = search needs
+add-cell-at c = omega (arith, rw (c .enum-told2 .given .1) at (c .before .before .before .before .pre))
 
 cell-at-requires-2 : tie.Need-cell-at-requires-2
 cell-at-requires-2 c κs = search needs
@@ -26,12 +32,10 @@ add-result : tie.Need-add-result
 add-result c = search needs
 
 returns : tie.Need-returns
-returns c =
-    let test = c .before in
-    rw (eq-eqb _ _ (test .if1 .taken), ← test .before .cell-at .ensures, ← c .cell-at2 .ensures)
+returns c = rw (c .enum-told .given .1) (c .before .before .cell-at .ensures)
 
 returns-2 : tie.Need-returns-2
-returns-2 c = rw (ne-eqb _ _ (c .if1 .left)) (c .before .cell-at .ensures)
+returns-2 c = rw (c .before .enum-told2 .given .1, ← c .before .before .before .cell-at .ensures, ← c .cell-at2 .ensures)
 
 pub cells-at-spec : {M : Type 1} → statement M
 cells-at-spec =
@@ -39,6 +43,8 @@ cells-at-spec =
     (tie.spec
     cell-at-requires
     cast-first
+    enum-told
+    enum-told-2
     mul-result
     add-cell-at
     cell-at-requires-2

@@ -1,8 +1,8 @@
 -- `cell_of` meets its contract. Assumes nothing.
 use Rattle.cpus.specs.Cell.{cellOf}
 use borrow.Author.Needs.{needs}
-use Rattle.cpus.proofs.value.cell_of.Statement.{statement}
-use Rattle.cpus.proofs.value.cell_of.Tie as tie
+use Rattle.cpus.proofs.property.cell_of.Statement.{statement}
+use Rattle.cpus.proofs.property.cell_of.Tie as tie
 
 find-property-requires : tie.Need-find-property-requires
 find-property-requires c κs = search needs

@@ -1,0 +1,19 @@
+-- `number_or` meets its contract. Assumes nothing.
+use borrow.Author.Needs.{needs}
+use Rattle.cpus.proofs.read.number_or.Statement.{statement}
+use Rattle.cpus.proofs.read.number_or.Tie as tie
+
+enum-known-value : tie.Need-enum-known-value
+enum-known-value c = search needs
+
+enum-told : tie.Need-enum-told
+enum-told c = search needs
+
+returns : tie.Need-returns
+returns c = rw (c .before .value .given .1)
+
+returns-2 : tie.Need-returns-2
+returns-2 c = rw (c .enum-told .given .1)
+
+pub number-or-spec : {M : Type 1} → statement M
+number-or-spec = tie.close (tie.spec enum-known-value enum-told returns returns-2)
