@@ -1,16 +1,19 @@
 -- The survey stops at the first fault: its stages, and what those of the code tell of a board. Assumes nothing.
 use mathlib.Core.Path.{_≡_, sym, ap, _∙_}
 use mathlib.Core.List.{List, map}
-use Prim.Native.Nat.{ℕ, _≤_}
+use Prim.Native.Nat.{ℕ, _*_, _≤_, min}
 use native.Mathlib.Omega.{arith}
-use lib.ListN.{length, replicate, length-map}
+use lib.ListN.{length, take, replicate, length-map}
+use lib.Seq.{take-all}
 use borrow.Author.Tests.{eq-eqb, ne-eqb}
 use Rattle.laws.specs.declared.Fault.{Fault}
 use Rattle.laws.specs.Fault.{told, orElse}
+use Rattle.laws.specs.Search.{countBelow, listBelow}
 use Rattle.laws.proofs.FaultLaws.{or-first}
 use Rattle.laws.proofs.OrElseLaws.{or-clear, or-assoc}
-use Rattle.tables.specs.Board.{Board}
+use Rattle.tables.specs.Board.{Board, nodeCount}
 use Rattle.tables.specs.Property.{lookup}
+use Rattle.wellformed.specs.Limits.{maxNodes}
 use Rattle.wellformed.specs.Rules.{WellFormed}
 use Rattle.wellformed.specs.Check.{tableFault}
 use Rattle.wellformed.proofs.WellFormedLaws.{wf-nodes, wf-props, wf-prop-node}
@@ -22,13 +25,13 @@ use Rattle.keys.proofs.IndexLaws.{index-finds}
 use Rattle.cpus.specs.declared.Reading.{Reading}
 use Rattle.cpus.specs.declared.Wanted.{Wanted}
 use Rattle.cpus.specs.Rules.{maxCpus}
-use Rattle.cpus.specs.Check.{rootFault, cpuCount, cpuList, countFault, phandleReadings, cpuFault, cpusFault, phandlesFault, phandleList, mpidrList}
+use Rattle.cpus.specs.Check.{isCpu, rootFault, cpuCount, cpuList, countFault, phandleReadings, cpuFault, cpusFault, phandlesFault, phandleList, mpidrList}
 use Rattle.cpus.specs.Gather.{readingAt, readingOf, firstRecord, numbersOver}
 use Rattle.cpus.proofs.CpuMeans.{cpu-count}
 use Rattle.cpus.proofs.ScanLaws.{same-reading, numbers-clear}
 use Rattle.topology.specs.Find.{mapOf, mapFault}
 use Rattle.leaves.specs.Check.{keyCells}
-use Rattle.leaves.specs.Scan.{tree, leavesFault, treeOf, leavesOf}
+use Rattle.leaves.specs.Scan.{lentTree, leavesFault, treeOf, leavesOf}
 use Rattle.leaves.proofs.CellLaws.{same-cells}
 use Rattle.leaves.proofs.ScanLaws.{leaves-few}
 use Rattle.laws.specs.Listed.{over}
@@ -81,6 +84,17 @@ module _ (b : Board) where
   unfolding surveyOf
   clears z e g a = (rw (eq-eqb (surveyFault b .number) 0 z, e, g), λ _. a)
 
+-- no cpu record of a well-formed table is left out
+module _ (b : Board) (well : WellFormed b) where
+  all-records : min (nodeCount (b .nodes)) maxNodes ≡ nodeCount (b .nodes)
+  all-records = omega (arith, wf-nodes well .1)
+
+  pub counted-all : countBelow (isCpu (b .nodes) (b .pool)) (min (nodeCount (b .nodes)) maxNodes) ≡ cpuCount b
+  counted-all = rw all-records
+
+  pub listed-all : (before : List ℕ) → over (listBelow (isCpu (b .nodes) (b .pool)) (min (nodeCount (b .nodes)) maxNodes)) before ≡ over (cpuList b) before
+  listed-all before = rw all-records
+
 -- the table of keys of a board
 abbrev pub boardKeys : Board → List ℕ
 boardKeys b = keysOf (replicate 4096 0) (b .props) (b .pool)
@@ -110,13 +124,16 @@ module _ (b : Board) (well : WellFormed b) {keys records : List ℕ} (keys-are :
     pub numbers-found : (before : List ℕ) → firstRecord there rule (cpuList b) .number ≡ 0 → numbersOver here rule records before ≡ over (map (λ i. there i .value) (cpuList b)) before
     numbers-found before z = rw (readings, records-are) (numbers-clear there rule (cpuList b) before z)
 
-  -- rules 18 to 26
+  -- rules 18 to 26: no record and no phandle is cut off
   pub tree-is :
       {root : ℕ} {phandles : List ℕ} →
       root ≡ mapOf (b .nodes) (b .pool) →
       phandles ≡ phandleList b →
-      tree (b .nodes) (keyCells (b .props) (b .pool) keys) (b .pool) root phandles ≡ treeOf b
-  tree-is root-is phandles-are = rw (root-is, phandles-are, same-cells (b .props) (b .pool) keys (λ i. finds i Cpu))
+      length phandles ≤ maxCpus →
+      lentTree (b .nodes) (b .props) (b .pool) keys root phandles ≡ treeOf b
+  tree-is {phandles = phandles} root-is phandles-are few =
+      let whole : take (3 * maxNodes) (b .nodes) ≡ b .nodes = take-all (3 * maxNodes) (b .nodes) (omega (arith, wf-nodes well .1, wf-nodes well .2)) in
+      rw (root-is, whole, take-all maxCpus phandles few ∙ phandles-are, same-cells (b .props) (b .pool) keys (λ i. finds i Cpu))
 
 -- where the survey tells nothing, there are few cpu records, and no more leaves than these
 pub survey-few : (b : Board) → surveyFault b .number ≡ 0 → (cpuCount b ≤ maxCpus) × (length (leavesOf b) ≤ cpuCount b)

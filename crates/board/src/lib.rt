@@ -61,10 +61,10 @@ pub fn read_tables(
         let b = board width (now (nodes .entry)) (now (props .entry)) (now (pool .entry)) in
         ⌜ Demands b (now (rows .entry)) r (now (rows .exit)) ⌝ }
 {
-    let mut cpus = [0usize; MAX_CPUS];
+    let mut cpus = [0u16; MAX_CPUS];
     let mut mpidrs = [0u64; MAX_CPUS];
-    let mut leaves = [0usize; MAX_CPUS];
-    let mut named = [0usize; MAX_CPUS];
+    let mut leaves = [0u16; MAX_CPUS];
+    let mut named = [0u16; MAX_CPUS];
     let found = survey(
         width,
         nodes,

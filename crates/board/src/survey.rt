@@ -26,10 +26,10 @@ pub fn survey(
     nodes: &[u32],
     props: &[u32],
     pool: &[u8],
-    cpus: &mut [usize; MAX_CPUS],
+    cpus: &mut [u16; MAX_CPUS],
     mpidrs: &mut [u64; MAX_CPUS],
-    leaves: &mut [usize; MAX_CPUS],
-    named: &mut [usize; MAX_CPUS],
+    leaves: &mut [u16; MAX_CPUS],
+    named: &mut [u16; MAX_CPUS],
 ) -> Surveyed
     ensures answer { λ r.
         let b = board width (now (nodes .entry)) (now (props .entry)) (now (pool .entry)) in

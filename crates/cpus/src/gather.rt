@@ -54,7 +54,7 @@ pub fn read_numbers(
     props: &[u32],
     pool: &[u8],
     keys: &[u16; KEY_WORDS],
-    records: &[usize],
+    records: &[u16],
     values: &mut [u64],
 ) -> Fault
     ensures fault { λ r.
@@ -68,7 +68,7 @@ pub fn read_numbers(
 {
     let mut k: usize = 0;
     while k < values.len() && k < records.len() {
-        let i = records[k];
+        let i = records[k] as usize;
         let reading = next_reading(wanted, props, pool, keys, &values[..k], i);
         if reading.number != 0 {
             return Fault {

@@ -7,12 +7,16 @@ use crate::node::is_cpu;
 use crate::property::cell_of;
 use crate::property::is_number;
 use laws::BAD_CPU_COUNT;
+use laws::at_most;
 use tables::name_is;
+use wellformed::MAX_NODES;
 ghost use mathlib.Core.Path.{_≡_};
+ghost use Prim.Native.Nat.{min};
 ghost use lib.ListN.{set};
 ghost use Rattle.laws.specs.Search.{countBelow, listBelow};
 ghost use Rattle.laws.specs.Listed.{over};
 ghost use Rattle.tables.specs.Board.{board, nodeCount};
+ghost use Rattle.wellformed.specs.Limits.{maxNodes};
 ghost use Rattle.cpus.specs.Check.{isCpu, cellsFor, soundCells, countFault};
 
 // What `#address-cells` gives a board of a width: one cell, or on width 64 two.
@@ -48,7 +52,7 @@ pub fn read_cells(width: u32, nodes: &[u32], props: &[u32], pool: &[u8]) -> Root
 }
 
 // Writes a record's number at index k, if there is room.
-fn put_record(records: &mut [usize], k: usize, i: usize)
+fn put_record(records: &mut [u16], k: usize, i: u16)
     ensures { λ _. ⌜ now (records .exit) ≡ set (now (records .entry)) k i ⌝ }
 {
     if k < records.len() {
@@ -56,16 +60,16 @@ fn put_record(records: &mut [usize], k: usize, i: usize)
     }
 }
 
-// Lists the cpu records, as many as there is room for, and counts them.
-pub fn list_cpus(nodes: &[u32], pool: &[u8], records: &mut [usize; MAX_CPUS]) -> usize
+// Lists the cpu records among the first 1,024 records, as many as there is room for, and counts them.
+pub fn list_cpus(nodes: &[u32], pool: &[u8], records: &mut [u16; MAX_CPUS]) -> usize
     ensures count { λ r.
         let table = now (nodes .entry) in
-        ⌜ r ≡ countBelow (isCpu table (now (pool .entry))) (nodeCount table) ⌝ }
+        ⌜ r ≡ countBelow (isCpu table (now (pool .entry))) (min (nodeCount table) maxNodes) ⌝ }
     ensures records { λ _.
         let table = now (nodes .entry) in
-        ⌜ now (records .exit) ≡ over (listBelow (isCpu table (now (pool .entry))) (nodeCount table)) (now (records .entry)) ⌝ }
+        ⌜ now (records .exit) ≡ over (listBelow (isCpu table (now (pool .entry))) (min (nodeCount table) maxNodes)) (now (records .entry)) ⌝ }
 {
-    let n = nodes.len() / 3;
+    let n = at_most(nodes.len() / 3, MAX_NODES);
     let mut count: usize = 0;
     let mut i: usize = 0;
     while i < n {
@@ -73,7 +77,7 @@ pub fn list_cpus(nodes: &[u32], pool: &[u8], records: &mut [usize; MAX_CPUS]) ->
             i += 1;
             continue;
         }
-        put_record(records, count, i);
+        put_record(records, count, i as u16);
         count += 1;
         i += 1;
     }

@@ -1,7 +1,9 @@
-// What every other crate uses: general laws, the numbers of the rules, what is told of a broken one, and the search of a list.
+// What every other crate uses: general laws, the numbers of the rules, what is told of a broken one, the search of a list, and a length cut to the room.
+mod cut;
 mod rules;
 mod search;
 
+pub use cut::at_most;
 pub use rules::BAD_CPU_COUNT;
 pub use rules::BAD_CPUS_NODE;
 pub use rules::BAD_DEVICE_TYPE;

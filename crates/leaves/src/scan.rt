@@ -7,9 +7,9 @@ use cpus::MAX_CPUS;
 use keys::KEY_WORDS;
 use laws::Fault;
 use laws::UNMAPPED_CPU;
+use laws::at_most;
 use wellformed::MAX_NODES;
 ghost use mathlib.Core.Path.{_≡_};
-ghost use Prim.Native.Nat.{min};
 ghost use lib.ListN.{length};
 ghost use Rattle.laws.specs.Fault.{firstFault};
 ghost use Rattle.laws.specs.Listed.{toldOf};
@@ -36,16 +36,6 @@ fn first_unmapped(records: &[u16], marks: &[u8]) -> Fault
         number: 0,
         place: 0,
     }
-}
-
-// The smaller of two numbers.
-fn at_most(n: usize, most: usize) -> usize
-    ensures { λ r. ⌜ r ≡ min n most ⌝ }
-{
-    if most < n {
-        return most;
-    }
-    n
 }
 
 // Checks rules 18 to 26, and lists the leaves, and for each the index of the cpu record that it names. It looks at the first 1,024 records and

@@ -13,11 +13,11 @@ ghost use Rattle.rows.specs.Row.{placed};
 ghost use Rattle.rows.specs.Write.{namedCpu, written, source};
 
 // An element of a list, 0 outside it.
-fn record_at(list: &[usize], k: usize) -> usize
+fn record_at(list: &[u16], k: usize) -> usize
     ensures { λ r. ⌜ r ≡ getD (now (list .entry)) k 0 ⌝ }
 {
     if k < list.len() {
-        return list[k];
+        return list[k] as usize;
     }
     0
 }
@@ -37,7 +37,7 @@ fn placed_at(nodes: &[u32], pool: &[u8], p: usize, last: Placed) -> Placed
 }
 
 // The cpu at an index of the cpu records and their MPIDRs, with its slot. What a list does not have is 0.
-fn named_cpu(cpus: &[usize], mpidrs: &[u64], index: usize, hash: Hash) -> NamedCpu
+fn named_cpu(cpus: &[u16], mpidrs: &[u64], index: usize, hash: Hash) -> NamedCpu
     ensures { λ r. ⌜ r ≡ namedCpu (now (cpus .entry)) (now (mpidrs .entry)) index hash ⌝ }
 {
     let mut mpidr: u64 = 0;
@@ -56,10 +56,10 @@ pub fn write_rows(
     rows: &mut [u32],
     nodes: &[u32],
     pool: &[u8],
-    cpus: &[usize],
+    cpus: &[u16],
     mpidrs: &[u64],
-    leaves: &[usize],
-    named: &[usize],
+    leaves: &[u16],
+    named: &[u16],
     hash: Hash,
 )
     ensures { λ _.
@@ -77,7 +77,7 @@ pub fn write_rows(
     };
     let mut k: usize = 0;
     while k < count {
-        let leaf = leaves[k];
+        let leaf = leaves[k] as usize;
         let p = node_word(nodes, leaf, 0);
         above = placed_at(nodes, pool, p, above);
         let index = record_at(named, k);

@@ -1,10 +1,10 @@
 // Rules 5 and 6: each node record.
+use crate::limits::MAX_NODE_NAME;
+use crate::limits::NO_PARENT;
 use crate::name::sound_name;
 use laws::BAD_NODE_NAME;
 use laws::BAD_PARENT;
 use laws::Fault;
-use crate::limits::MAX_NODE_NAME;
-use crate::limits::NO_PARENT;
 use tables::is_below;
 use tables::node_word;
 ghost use mathlib.Core.Path.{_≡_};

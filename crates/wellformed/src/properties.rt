@@ -1,12 +1,12 @@
 // Rules 7 and 8: each property.
+use crate::limits::MAX_NODES;
+use crate::limits::MAX_PROPERTY_NAME;
 use crate::name::sound_name;
 use crate::starts::NO_START;
 use crate::starts::start_of;
 use laws::BAD_PROPERTY;
 use laws::Fault;
 use laws::REPEATED_PROPERTY;
-use crate::limits::MAX_NODES;
-use crate::limits::MAX_PROPERTY_NAME;
 use tables::is_inside;
 use tables::range_is;
 use tables::wide;

@@ -1,11 +1,11 @@
 // Rules 1 to 4: the width and the lengths of the tables. Each gives its number or 0.
+use crate::limits::MAX_NODES;
+use crate::limits::MAX_POOL;
+use crate::limits::MAX_PROPERTIES;
 use laws::BAD_NODE_TABLE;
 use laws::BAD_POOL;
 use laws::BAD_PROPERTY_TABLE;
 use laws::BAD_WIDTH;
-use crate::limits::MAX_NODES;
-use crate::limits::MAX_POOL;
-use crate::limits::MAX_PROPERTIES;
 ghost use mathlib.Core.Path.{_≡_};
 ghost use Rattle.laws.specs.Fault.{orNumber};
 ghost use Rattle.wellformed.specs.Check.{widthFault, nodeWordsFault, propWordsFault, poolFault};

@@ -24,13 +24,12 @@ use Rattle.cpus.proofs.CpuMeans.{cpu-count, count-fits}
 use Rattle.topology.specs.declared.MapScan.{MapScan}
 use Rattle.leaves.specs.declared.TreeScan.{TreeScan}
 use Rattle.topology.specs.Find.{mapOf}
-use Rattle.leaves.specs.Check.{keyCells}
-use Rattle.leaves.specs.Scan.{Tree, tree, leavesFault, treeScan, leavesOver, namedOver, treeOf, leavesOf, namedOf}
+use Rattle.leaves.specs.Scan.{Tree, lentTree, leavesFault, treeScan, leavesOver, namedOver, treeOf, leavesOf, namedOf}
 use Rattle.leaves.proofs.ScanLaws.{leaves-listed, named-listed}
 use Rattle.board.specs.Survey.{surveyFault, surveyOf}
 use Rattle.board.proofs.FrontLaws.{front-fits, front-size, front-is}
 use Rattle.board.proofs.ReadLaws.{map-number, map-place, map-root}
-use Rattle.board.proofs.SurveyLaws.{mapStage, fromPhandles, fromMap, fromCpus, fromCount, fromRoot, survey-stages, tells, tells-first, clears, numbers-stage, numbers-found, tree-is}
+use Rattle.board.proofs.SurveyLaws.{counted-all, listed-all, mapStage, fromPhandles, fromMap, fromCpus, fromCount, fromRoot, survey-stages, tells, tells-first, clears, numbers-stage, numbers-found, tree-is}
 use borrow.Author.Needs.{needs}
 use Rattle.board.proofs.survey.survey.Statement.{statement}
 use Rattle.board.proofs.survey.survey.Tie as tie
@@ -98,8 +97,17 @@ rest-2 : (c : tie.After-known-told) → surveyFault (b3 c) ≡ fromCount (b3 c)
 rest-2 c = rest-1 (c .before .before .before .before) ∙ or-second (told (rootFault (b3 c)) 0) _ (told-number _ 0 ∙ sound-root c)
 
 -- rule 10
+well-4 : (c : tie.After-count-fault) → WellFormed (b4 c)
+well-4 c = well (c .before .before .before .before .before .before .before)
+
+as-many-cpus : (c : tie.After-count-fault) → c .before .list-cpus .result ≡ cpuCount (b4 c)
+as-many-cpus c = c .before .list-cpus .ensures .0 ∙ counted-all (b4 c) (well-4 c)
+
+cpus-laid : (c : tie.After-count-fault) → c .before .list-cpus .last .1 .1 .0 ≡ over (cpuList (b4 c)) (start c .args .cpus .now)
+cpus-laid c = c .before .list-cpus .ensures .1 ∙ listed-all (b4 c) (well-4 c) _
+
 counted : (c : tie.After-count-fault) → c .count-fault .result ≡ countFault (cpuCount (b4 c))
-counted c = c .count-fault .ensures ∙ ap countFault (c .before .list-cpus .ensures .0)
+counted c = c .count-fault .ensures ∙ ap countFault (as-many-cpus c)
 
 rest-3 : (c : tie.Else2) → surveyFault (b4 (c .before)) ≡ fromCpus (b4 (c .before))
 rest-3 c =
@@ -114,7 +122,7 @@ listed-few : (c : tie.Else2) → length (cpuList (b4 (c .before))) ≤ maxCpus
 listed-few c = omega (arith, few c, cpu-count (b4 (c .before)))
 
 count-is : (c : tie.Else2) → c .before .before .list-cpus .result ≡ length (cpuList (b4 (c .before)))
-count-is c = c .before .before .list-cpus .ensures .0 ∙ cpu-count (b4 (c .before))
+count-is c = as-many-cpus (c .before) ∙ cpu-count (b4 (c .before))
 
 -- the cpu records, as the lent array has them
 module _ (c : tie.After-whole2) where
@@ -128,7 +136,7 @@ module _ (c : tie.After-whole2) where
   array = c .before .before .before .before .list-cpus .last .1 .1 .0
 
   laid : array ≡ over (cpuList (b4 (c .before .before .before))) (s .args .cpus .now)
-  laid = c .before .before .before .before .list-cpus .ensures .1
+  laid = cpus-laid (c .before .before .before)
 
   room : length (cpuList (b4 (c .before .before .before))) ≤ length (s .args .cpus .now)
   room = omega (arith, listed-few (c .before .before), c .whole2 .given .0, rw over-length at (ap length laid))
@@ -153,7 +161,7 @@ module _ (c : tie.After-read-numbers) where
   wholes = indexed .before .before .before
 
   well-5 : WellFormed (b5 c)
-  well-5 = well (at-count c .before .before .before .before .before .before .before .before)
+  well-5 = well-4 (at-count c .before)
 
   abbrev kept-9 : tie.After-known-told
   kept-9 = at-count c .before .before .before .before
@@ -235,8 +243,8 @@ module _ (c : tie.After-read-tree) where
   lent-are : lent ≡ phandles e6
   lent-are = front-is _ _ (phandles-laid (asked e6) (clear-phandles e6)) (as-many e6) (few-phandles e6)
 
-  phandles-are : take maxCpus lent ≡ phandles e6
-  phandles-are = ap (take maxCpus) lent-are ∙ take-all maxCpus (phandles e6) (omega (arith, few-phandles e6, length-replicate {A = ℕ} 256 0))
+  few-lent : length lent ≤ maxCpus
+  few-lent = rw lent-are (omega (arith, few-phandles e6, length-replicate {A = ℕ} 256 0))
 
   root-is : found .find-map .result .map ≡ mapOf (b8 c .nodes) (b8 c .pool)
   root-is = ap (λ (r : MapScan). r .map) (found .find-map .ensures) ∙ map-root (b8 c .nodes) (b8 c .pool) (clear-map (asked e6 .before .before .before))
@@ -245,12 +253,10 @@ module _ (c : tie.After-read-tree) where
   keyed = read (asked e6)
 
   abbrev theTree : Tree
-  theTree =
-      tree (b8 c .nodes) (keyCells (b8 c .props) (b8 c .pool) (indexed keyed .index-keys .last .1 .1 .0)) (b8 c .pool) (found .find-map .result .map)
-      (take maxCpus lent)
+  theTree = lentTree (b8 c .nodes) (b8 c .props) (b8 c .pool) (indexed keyed .index-keys .last .1 .1 .0) (found .find-map .result .map) lent
 
   tree-here : theTree ≡ treeOf (b8 c)
-  tree-here = tree-is (b8 c) (well-5 keyed) (indexed keyed .index-keys .ensures) (listed-is (wholes keyed)) root-is phandles-are
+  tree-here = tree-is (b8 c) (well-5 keyed) (indexed keyed .index-keys .ensures) (listed-is (wholes keyed)) root-is lent-are few-lent
 
   scanned : c .read-tree .result ≡ treeScan (treeOf (b8 c)) (cpuList (b8 c))
   scanned = c .read-tree .ensures .0 ∙ ap₂ treeScan tree-here (listed-is (wholes keyed))
@@ -403,10 +409,10 @@ returns-8 c =
     let b = b8 (call c) in
     let first = read (asked (e6 (call c))) in
     clears b (ap (λ (f : Fault). f .number) (rest-6 (e6 (call c))) ∙ clear-tree c)
-    (at-count first .before .before .list-cpus .ensures .0)
+    (as-many-cpus (at-count first .before))
     (leaf-count c)
     (record {
-      cpus-laid = at-count first .before .before .list-cpus .ensures .1;
+      cpus-laid = cpus-laid (at-count first .before);
       mpidrs-laid = mpidrs-laid first (clear-mpidrs (found (call c) .before));
       leaves-laid = leaves-laid c;
       named-laid = named-laid c;

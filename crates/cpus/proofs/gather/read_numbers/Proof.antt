@@ -27,6 +27,9 @@ mul-i c = search needs
 shared-slice-read-i : tie.Need-shared-slice-read-i Inv-loop μ-loop
 shared-slice-read-i c = search needs
 
+cast-i : tie.Need-cast-i Inv-loop μ-loop
+cast-i c = omega (arith, c .shared-slice-known4 .given (c .before .before .before .loop .k))
+
 slice-reshare-prefix-next-reading : tie.Need-slice-reshare-prefix-next-reading Inv-loop μ-loop
 slice-reshare-prefix-next-reading c = search needs
 
@@ -91,6 +94,7 @@ read-numbers-spec =
     loop-holds
     mul-i
     shared-slice-read-i
+    cast-i
     slice-reshare-prefix-next-reading
     slice-aggregate-next-reading
     next-reading-requires

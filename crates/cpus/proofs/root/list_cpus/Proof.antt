@@ -1,6 +1,6 @@
 -- `list_cpus` meets its contract: so many of the records passed are cpu records, and they are listed. Assumes nothing.
 use mathlib.Core.Path.{_≡_, refl, sym, ap, _∙_}
-use Prim.Native.Nat.{ℕ, _+_, _-_, _≤_}
+use Prim.Native.Nat.{ℕ, _+_, _-_, _≤_, min}
 use native.Mathlib.Omega.{arith}
 use borrow.Author.Tests.{not-true, not-false}
 use Rattle.laws.specs.Listed.{over}
@@ -8,6 +8,7 @@ use Rattle.laws.specs.Search.{countBelow, listBelow}
 use Rattle.laws.proofs.OverLaws.{over-none, listed-yes, listed-no}
 use Rattle.laws.proofs.SearchLaws.{count-yes, count-no, count-le}
 use Rattle.tables.specs.Board.{nodeCount}
+use Rattle.wellformed.specs.Limits.{maxNodes}
 use Rattle.cpus.specs.Check.{isCpu}
 use borrow.Author.Needs.{needs}
 use Rattle.cpus.proofs.root.list_cpus.Statement.{statement}
@@ -19,6 +20,9 @@ Inv-loop nodes pool records₀ n count₀ i₀ records count i =
 
 abbrev μ-loop : tie.MeasureT-loop
 μ-loop nodes pool records₀ n count₀ i₀ records count i = n - i
+
+at-most-requires : tie.Need-at-most-requires Inv-loop μ-loop
+at-most-requires c κs = search needs
 
 loop-holds : tie.Need-loop-holds Inv-loop μ-loop
 unfolding countBelow listBelow
@@ -39,13 +43,18 @@ loop-again c =
     let no = sym (c .before .is-cpu .ensures) ∙ not-true _ (c .if1 .taken) in
     (omega arith, loop .inv .1 ∙ sym (count-no _ _ no), listed-no _ _ _ (loop .inv .1) (loop .inv .2) no)
 
+cast-put-record : tie.Need-cast-put-record Inv-loop μ-loop
+cast-put-record c =
+    let turn = c .before .before .before in
+    omega (arith, turn .loop-test .taken, turn .before .before .at-most .ensures)
+
 put-record-requires : tie.Need-put-record-requires Inv-loop μ-loop
 put-record-requires c κs = search needs
 
 add-count : tie.Need-add-count Inv-loop μ-loop
 add-count c =
     let at = c .before .before .before .before .before in
-    let a = at .before .before .before .args in
+    let a = at .before .before .before .before .args in
     omega (arith, at .loop .inv .1, count-le (isCpu (a .nodes .now) (a .pool .now)) (at .loop .i))
 
 add-i-2 : tie.Need-add-i-2 Inv-loop μ-loop
@@ -63,9 +72,9 @@ loop-again-2 c =
 
 returns : tie.Need-returns Inv-loop μ-loop
 returns c =
-    let a = c .before .before .before .before .args in
+    let a = c .before .before .before .before .before .args in
     let loop = c .before .loop in
-    let end : loop .i ≡ nodeCount (a .nodes .now) = omega arith in
+    let end : loop .i ≡ min (nodeCount (a .nodes .now)) maxNodes = omega (arith, c .before .before .at-most .ensures) in
     (loop .inv .1 ∙ ap (countBelow (isCpu (a .nodes .now) (a .pool .now))) end, loop .inv .2 ∙ ap (λ (k : ℕ). over (listBelow (isCpu (a .nodes .now) (a .pool .now)) k) (a .records .now)) end)
 
 pub list-cpus-spec : {M : Type 1} → statement M
@@ -74,11 +83,13 @@ list-cpus-spec =
     (tie.spec
     Inv-loop
     μ-loop
+    at-most-requires
     loop-holds
     is-cpu-requires
     add-i
     loop-less
     loop-again
+    cast-put-record
     put-record-requires
     add-count
     add-i-2

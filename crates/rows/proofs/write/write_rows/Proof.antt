@@ -76,6 +76,9 @@ mul-leaf c = search needs
 shared-slice-read-leaf : tie.Need-shared-slice-read-leaf Inv-loop μ-loop
 shared-slice-read-leaf c = search needs
 
+cast-leaf : tie.Need-cast-leaf Inv-loop μ-loop
+cast-leaf c = omega (arith, c .shared-slice-known7 .given (c .before .before .loop .k))
+
 node-word-requires : tie.Need-node-word-requires Inv-loop μ-loop
 node-word-requires c κs = search needs
 
@@ -156,6 +159,7 @@ write-rows-spec =
     loop-holds
     mul-leaf
     shared-slice-read-leaf
+    cast-leaf
     node-word-requires
     placed-at-requires
     record-at-requires
