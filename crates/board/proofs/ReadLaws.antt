@@ -6,26 +6,23 @@ use Prim.Native.Nat.{ℕ, _*_, _≤_, _<_}
 use native.Mathlib.Omega.{arith}
 use lib.Dec.{eqb, ltb}
 use lib.ListN.{length}
-use borrow.Author.Tests.{eq-eqb, ne-eqb, eqb-true, lt-ltb, le-ltb, ltb-false}
+use borrow.Author.Tests.{eq-eqb, ne-eqb, eqb-true, lt-ltb, le-ltb}
 use Rattle.laws.specs.declared.Fault.{Fault}
-use Rattle.laws.specs.Fault.{told, orElse}
+use Rattle.laws.specs.Fault.{told}
 use Rattle.laws.proofs.FaultLaws.{or-first, or-second}
-use Rattle.laws.proofs.OrElseLaws.{told-number, or-clear, or-assoc}
 use Rattle.layout.specs.Row.{rowSize}
 use Rattle.affinity.specs.declared.Hash.{Hash}
 use Rattle.affinity.specs.Hash.{hashOf}
 use Rattle.tables.specs.Board.{Board, Typed}
-use Rattle.wellformed.specs.Check.{tableFault}
-use Rattle.cpus.specs.Rules.{maxCpus}
-use Rattle.cpus.specs.Check.{cpuCount, countFault, rootFault, cpusFault, phandlesFault, mpidrList}
+use Rattle.cpus.specs.Check.{cpuCount, mpidrList}
 use Rattle.topology.specs.declared.MapScan.{MapScan}
 use Rattle.topology.specs.Find.{mapOf, mapFault, mapScan}
-use Rattle.leaves.specs.Scan.{leavesFault, treeOf, leavesOf}
+use Rattle.leaves.specs.Scan.{leavesOf}
 use Rattle.rows.specs.Write.{written, sourceOf}
 use Rattle.board.specs.declared.BoardAnswer.{BoardAnswer}
 use Rattle.board.specs.declared.Surveyed.{Surveyed}
 use Rattle.board.specs.Survey.{surveyFault, surveyOf}
-use Rattle.board.specs.Answer.{boardFault, roomFault, refusedWith, answerOf, rowsAfter}
+use Rattle.board.specs.Answer.{boardFault, refusedWith, answerOf, rowsAfter}
 use Rattle.board.specs.Reading.{Demands}
 use Rattle.board.proofs.Claim.{demands}
 

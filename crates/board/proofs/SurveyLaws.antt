@@ -25,12 +25,11 @@ use Rattle.keys.proofs.IndexLaws.{index-finds}
 use Rattle.cpus.specs.declared.Reading.{Reading}
 use Rattle.cpus.specs.declared.Wanted.{Wanted}
 use Rattle.cpus.specs.Rules.{maxCpus}
-use Rattle.cpus.specs.Check.{isCpu, rootFault, cpuCount, cpuList, countFault, phandleReadings, cpuFault, cpusFault, phandlesFault, phandleList, mpidrList}
+use Rattle.cpus.specs.Check.{isCpu, rootFault, cpuCount, cpuList, countFault, phandleReadings, cpuFault, cpusFault, phandlesFault, phandleList}
 use Rattle.cpus.specs.Gather.{readingAt, readingOf, firstRecord, numbersOver}
 use Rattle.cpus.proofs.CpuMeans.{cpu-count}
 use Rattle.cpus.proofs.ScanLaws.{same-reading, numbers-clear}
 use Rattle.topology.specs.Find.{mapOf, mapFault}
-use Rattle.leaves.specs.Check.{keyCells}
 use Rattle.leaves.specs.Scan.{lentTree, leavesFault, treeOf, leavesOf}
 use Rattle.leaves.proofs.CellLaws.{same-cells}
 use Rattle.leaves.proofs.ScanLaws.{leaves-few}

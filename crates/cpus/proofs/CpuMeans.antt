@@ -12,9 +12,8 @@ use borrow.Author.Tests.{ltb-false}
 use Rattle.laws.specs.Listing.{Listing}
 use Rattle.laws.proofs.SearchLaws.{lt-or-le, list-length}
 use Rattle.laws.proofs.ListingLaws.{listed}
-use Rattle.laws.proofs.DecideLaws.{Decides, decides-not, decides-as, eq-decides, lt-decides, then-decides, both-decides, either-decides, without-decides}
-use Rattle.tables.specs.Board.{Board, Inside, range, rangeIs, nodeCount, nodeName, parentWord, nameOffset, nameLength}
-use Rattle.tables.specs.Tree.{Child}
+use Rattle.laws.proofs.DecideLaws.{Decides, decides-as, lt-decides, then-decides, either-decides, without-decides}
+use Rattle.tables.specs.Board.{Board, Inside, rangeIs, nodeCount, nodeName, nameOffset, nameLength}
 use Rattle.wellformed.specs.Rules.{WellFormed}
 use Rattle.tables.proofs.DecideLaws.{child-test, range-decides, range-test}
 use Rattle.wellformed.proofs.WellFormedLaws.{wf-name}

@@ -8,7 +8,6 @@ use Rattle.laws.specs.Fault.{clear, told, orElse, firstFault}
 use Rattle.laws.proofs.FaultLaws.{place-le}
 use Rattle.laws.proofs.FirstLaws.{Tells, Stage, stage-tells, end-tells}
 use Rattle.laws.proofs.RuleStageLaws.{else-assoc, Clears, first-clears, else-clears, else-clear, told-place, else-place, Once, once-tells}
-use Rattle.laws.proofs.DecideLaws.{eq-decides, holds-unless}
 use Rattle.tables.specs.Board.{Board, Typed, nodeCount}
 use Rattle.wellformed.specs.Order.{stage}
 use Rattle.wellformed.specs.Rules.{WellFormed}
@@ -187,16 +186,6 @@ module _ {b : Board} (typed : Typed b) (well : WellFormed b) where
       subst (Tells stage Early 7) (else-clear (cpusFault b) (cpus-clears b))
       (early-tells typed well Early (λ n p r lt. (r, lt)) (λ n p r _ _. r .0) clear (λ _. end-tells stage Early 10 (λ m q r. early-stage r .1)))
 
-  -- nothing is told exactly when the cpu nodes are sound
-  pub cpus-sound : (cpusFault b .number ≡ 0 → SoundCpus b) × (SoundCpus b → cpusFault b .number ≡ 0)
-  cpus-sound = (
-    λ z n p r lt. cpus-tell .none z .1 n p (r, lt) (early-stage (r, lt) .0),
-    λ sound. holds-unless (eq-decides (cpusFault b .number) 0) (λ ne. let t = cpus-tell .broken ne in sound (cpusFault b .number) (cpusFault b .place) (t .0) (t .1)),
-  )
-
-  pub cpus-clear : SoundCpus b → cpusFault b ≡ clear
-  cpus-clear sound = cpus-clears b (cpus-sound .1 sound)
-
   abbrev phandles : Fault
   phandles = phandlesFault b
 
@@ -209,13 +198,3 @@ module _ {b : Board} (typed : Typed b) (well : WellFormed b) where
         subst (Tells stage Late 12) (else-clear phandles (phandles-clears b))
         (late-tells typed well Late (λ p r. (r, refl)) (λ n p r _. r .0) sound clear
         (λ _. end-tells stage Late 13 (λ m q r. rw (r .1) (omega arith))))
-
-    -- nothing is told exactly when rule 17 is not broken
-    pub phandles-sound : (phandles .number ≡ 0 → (p : ℕ) → CpuRule b 17 p → ⊥) × (((p : ℕ) → CpuRule b 17 p → ⊥) → phandles .number ≡ 0)
-    phandles-sound = (
-      λ z p r. phandles-tell .none z .1 17 p (r, refl) (omega arith),
-      λ none. holds-unless (eq-decides (phandles .number) 0) (λ ne. let t = phandles-tell .broken ne in none (phandles .place) (rw (t .1) at (t .0))),
-    )
-
-    pub phandles-clear : ((p : ℕ) → CpuRule b 17 p → ⊥) → phandles ≡ clear
-    phandles-clear none = phandles-clears b (phandles-sound .1 none)

@@ -10,7 +10,7 @@ use lib.ListN.{length, getD, take, drop, take-append-drop, length-drop}
 use lib.Seq.{take-take, take-add, drop-drop, drop-at, length-take-le}
 use borrow.Author.Tests.{leb-true}
 use Rattle.laws.proofs.DecideLaws.{Decides, both-decides, decides-not}
-use Rattle.tables.specs.Board.{Inside, range, rangeIs}
+use Rattle.tables.specs.Board.{rangeIs}
 use Rattle.tables.specs.Property.{cellBytes, cellAt}
 use Rattle.tables.proofs.CellLaws.{cell-is}
 use Rattle.tables.proofs.DecideLaws.{range-decides}

@@ -20,7 +20,7 @@ use Rattle.laws.proofs.OverLaws.{over-none, over-add, listed-yes, listed-no}
 use Rattle.tables.specs.Board.{nodeCount}
 use Rattle.cpus.specs.Rules.{maxCpus}
 use Rattle.leaves.specs.declared.RecordCheck.{RecordCheck}
-use Rattle.leaves.specs.Scan.{Tree, check, isLeaf, cpuOf, namedBelow, treeFault, leafList, passed, leavesOver, namedOver}
+use Rattle.leaves.specs.Scan.{Tree, check, isLeaf, cpuOf, namedBelow, treeFault, leafList, passed}
 use Rattle.leaves.specs.Pass.{isMarked, Marked, Left, checkedFault, leafScan}
 use Rattle.leaves.proofs.LeafCount.{leaves-fit}
 

@@ -1,6 +1,5 @@
 -- The cpu records by their index, and their phandles. Assumes well-formed tables, and phandles where it cites rule 17.
 use mathlib.Core.Path.{_≡_, sym, _∙_}
-use mathlib.Core.List.{List}
 use Prim.Native.Nat.{ℕ, _≤_, _<_}
 use lib.ListN.{length, getD, length-map}
 use Rattle.laws.specs.Search.{countBelow}

@@ -8,11 +8,11 @@ use Rattle.names.specs.Kind.{Kind}
 use Rattle.tables.specs.Board.{Board, parentWord}
 use Rattle.tables.specs.Tree.{Child, Ancestor}
 use Rattle.wellformed.specs.Rules.{WellFormed}
-use Rattle.tables.proofs.DepthLaws.{ancestor-earlier, ancestor-inside, ancestor-cases, ancestor-chain}
+use Rattle.tables.proofs.DepthLaws.{ancestor-earlier, ancestor-cases, ancestor-chain}
 use Rattle.cpus.specs.Rules.{CpuRule, SoundCpus}
 use Rattle.topology.specs.Map.{Map, InMap, Is}
 use Rattle.topology.specs.Rules.{MapRule, Allowed}
-use Rattle.topology.proofs.NameFacts.{cpus-nameless, map-nameless, topology-cases}
+use Rattle.topology.proofs.NameFacts.{cpus-nameless, map-nameless}
 use Rattle.topology.proofs.MapMeans.{map-unique}
 use Rattle.topology.proofs.KindMeans.{parent-of, allowed-test}
 

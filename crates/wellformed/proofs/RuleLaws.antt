@@ -8,12 +8,11 @@ use native.Mathlib.Omega.{arith}
 use lib.ListN.{length, getD, List·getD-eq-default}
 use Rattle.laws.specs.declared.Fault.{Fault}
 use Rattle.laws.specs.Fault.{clear, told, orElse, firstFault}
-use Rattle.laws.specs.First.{First}
 use Rattle.laws.proofs.SearchLaws.{lt-or-le, below-suc}
 use Rattle.laws.proofs.FaultLaws.{place-le}
 use Rattle.laws.proofs.FirstLaws.{Tells, Stage, stage-tells, end-tells}
 use Rattle.laws.proofs.OrElseLaws.{told-number}
-use Rattle.laws.proofs.RuleStageLaws.{NoneOf, stages-tell, tells-first, tells-none, none-tells, Clears, first-clears, else-clears, else-clear, told-place, else-place}
+use Rattle.laws.proofs.RuleStageLaws.{NoneOf, stages-tell, tells-none, none-tells, Clears, first-clears, else-clears, else-clear, told-place, else-place}
 use Rattle.wellformed.specs.Limits.{maxProperties}
 use Rattle.tables.specs.Board.{Board, nodeCount, propCount}
 use Rattle.wellformed.specs.Order.{stage}

@@ -4,10 +4,8 @@ use mathlib.Core.Logic.{⊎-elim}
 use mathlib.Core.List.{List}
 use Prim.Native.Nat.{ℕ, _<_}
 use Rattle.laws.proofs.FirstLaws.{compared}
-use Rattle.tables.specs.declared.Lookup.the-variants.{At}
 use Rattle.tables.specs.Board.{Board, propValue}
-use Rattle.tables.specs.Property.{Property, HasValue, lookup}
-use Rattle.tables.proofs.LookupLaws.{at-lookup}
+use Rattle.tables.specs.Property.{Property, HasValue}
 use Rattle.wellformed.specs.Rules.{TableRule}
 
 module _ (b : Board) (i : ℕ) (key : List ℕ) (no-repeat : (k : ℕ) → TableRule b 8 k → ⊥) where
@@ -16,9 +14,6 @@ module _ (b : Board) (i : ℕ) (key : List ℕ) (no-repeat : (k : ℕ) → Table
 
   pub property-unique : {j k : ℕ} → Property b i key j → Property b i key k → j ≡ k
   property-unique {j} {k} g h = ⊎-elim (λ lt. absurd (not-before g h lt)) (⊎-elim (λ e. e) (λ lt. absurd (not-before h g lt))) (compared j k)
-
-  pub lookup-of : {k : ℕ} → Property b i key k → lookup (b .props) (b .pool) i key ≡ At k
-  lookup-of {k} h = at-lookup b i key k (record { property = h; no-lower = λ j lt g. not-before g h lt })
 
   pub value-unique : {v w : List ℕ} → HasValue b i key v → HasValue b i key w → v ≡ w
   value-unique g h = sym (g .bytes) ∙ ap (propValue b) (property-unique (g .property) (h .property)) ∙ h .bytes

@@ -1,17 +1,14 @@
 -- What well-formed tables have. Assumes nothing.
-use mathlib.Core.Path.{_≡_, refl}
-use mathlib.Core.Logic.{_⊎_}
+use mathlib.Core.Path.{_≡_}
 use mathlib.Core.List.{List}
-use Prim.Native.Nat.{ℕ, suc, _≤_, _<_}
-use lib.ListN.{length}
-use Rattle.tables.specs.declared.Lookup.the-variants.{At}
-use Rattle.wellformed.specs.Limits.{maxPool, maxNodeName, maxPropertyName, noParent}
-use Rattle.tables.specs.Board.{Board, Inside, nodeCount, parentWord, nameOffset, nameLength, propCount, propNode, keyOffset, keyLength, valueOffset, valueLength, propValue}
-use Rattle.tables.specs.Property.{Property, HasValue, lookup}
+use Prim.Native.Nat.{ℕ, suc, _<_}
+use Rattle.wellformed.specs.Limits.{maxNodeName}
+use Rattle.tables.specs.Board.{Board, nodeCount, nameOffset, nameLength, propCount, propNode}
+use Rattle.tables.specs.Property.{Property, HasValue}
 use Rattle.wellformed.specs.Rules.{WellFormed}
 use Rattle.tables.proofs.DepthLaws.{DepthFirst}
-use Rattle.wellformed.proofs.UniqueLaws.{property-unique, value-unique, lookup-of}
-use Rattle.wellformed.proofs.SoundLaws.{Verdict, Verdicts, Name, NodeWords, PropWords, SoundProperty, width-told, nodes-told, props-told, pool-told, node-told, property-told}
+use Rattle.wellformed.proofs.UniqueLaws.{property-unique, value-unique}
+use Rattle.wellformed.proofs.SoundLaws.{Verdict, Verdicts, Name, NodeWords, PropWords, SoundProperty, nodes-told, props-told, node-told, property-told}
 
 module _ {b : Board} (wf : WellFormed b) where
   kept : {n q v : ℕ} {P : Type 0} → Verdict b n q P v → P
@@ -46,9 +43,6 @@ module _ {b : Board} (wf : WellFormed b) where
 
   pub wf-prop-node : (k : ℕ) → k < propCount (b .props) → propNode (b .props) k < nodeCount (b .nodes)
   wf-prop-node k lt = wf-property k lt .node
-
-  pub wf-value : (k : ℕ) → k < propCount (b .props) → Inside (b .pool) (valueOffset (b .props) k) (valueLength (b .props) k)
-  wf-value k lt = wf-property k lt .value
 
   -- a record has at most one property of a name, with one value, and the lookup finds it
   module _ {i : ℕ} {key : List ℕ} where

@@ -17,13 +17,6 @@ use Rattle.board.proofs.SurveyLaws.{survey-few}
 use borrow.Author.Needs.{needs}
 use Rattle.board.proofs.read_tables.Statement.{statement}
 use Rattle.board.proofs.read_tables.Tie as tie
-use Rattle.board.proofs.read_tables.Reads as reads
-use Rattle.board.proofs.read_tables.Lts as lts
-use Rattle.affinity.proofs.mask_of.Reads as mask-of-reads
-use Rattle.affinity.proofs.hash_of_mask.Reads as hash-of-mask-reads
-use Rattle.board.proofs.refused.Reads as refused-reads
-use Rattle.board.proofs.survey.survey.Reads as survey-reads
-use Rattle.rows.proofs.write_rows.Reads as write-rows-reads
 
 -- the function's entry, its board, and the buffer
 abbrev entry : tie.After-survey → tie.Start

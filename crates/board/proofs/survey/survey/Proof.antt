@@ -26,24 +26,13 @@ use Rattle.leaves.specs.declared.TreeScan.{TreeScan}
 use Rattle.topology.specs.Find.{mapOf}
 use Rattle.leaves.specs.Scan.{Tree, lentTree, leavesFault, treeScan, leavesOver, namedOver, treeOf, leavesOf, namedOf}
 use Rattle.leaves.proofs.ScanLaws.{leaves-listed, named-listed}
-use Rattle.board.specs.Survey.{surveyFault, surveyOf}
+use Rattle.board.specs.Survey.{surveyFault}
 use Rattle.board.proofs.FrontLaws.{front-fits, front-size, front-is}
 use Rattle.board.proofs.ReadLaws.{map-number, map-place, map-root}
 use Rattle.board.proofs.SurveyLaws.{counted-all, listed-all, mapStage, fromPhandles, fromMap, fromCpus, fromCount, fromRoot, survey-stages, tells, tells-first, clears, numbers-stage, numbers-found, tree-is}
 use borrow.Author.Needs.{needs}
 use Rattle.board.proofs.survey.survey.Statement.{statement}
 use Rattle.board.proofs.survey.survey.Tie as tie
-use Rattle.board.proofs.survey.survey.Reads as reads
-use Rattle.board.proofs.survey.survey.Lts as lts
-use Rattle.board.proofs.survey.stop.Reads as stop-reads
-use Rattle.cpus.proofs.count_fault.Reads as count-fault-reads
-use Rattle.cpus.proofs.list_cpus.Reads as list-cpus-reads
-use Rattle.cpus.proofs.read_cells.Reads as read-cells-reads
-use Rattle.cpus.proofs.read_numbers.Reads as read-numbers-reads
-use Rattle.keys.proofs.index_keys.Reads as index-keys-reads
-use Rattle.wellformed.proofs.table_fault.Reads as table-fault-reads
-use Rattle.topology.proofs.find_map.Reads as find-map-reads
-use Rattle.leaves.proofs.read_tree.Reads as read-tree-reads
 
 -- the board at each call; the stages before it told nothing
 abbrev b1 : tie.After-table-fault → Board

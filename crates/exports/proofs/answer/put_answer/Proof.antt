@@ -6,8 +6,6 @@ use Rattle.exports.specs.Answer.{answerWords}
 use borrow.Author.Needs.{needs}
 use Rattle.exports.proofs.answer.put_answer.Statement.{statement}
 use Rattle.exports.proofs.answer.put_answer.Tie as tie
-use Rattle.exports.proofs.answer.put_answer.Reads as reads
-use Rattle.exports.proofs.answer.put_answer.Lts as lts
 
 -- src/lib.rt:31:5
 slice-write-answer : tie.Need-slice-write-answer

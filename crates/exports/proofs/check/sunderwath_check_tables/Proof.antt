@@ -8,11 +8,6 @@ use Rattle.wellformed.proofs.RuleLaws.{table-place}
 use borrow.Author.Needs.{needs}
 use Rattle.exports.proofs.check.sunderwath_check_tables.Statement.{statement}
 use Rattle.exports.proofs.check.sunderwath_check_tables.Tie as tie
-use Rattle.exports.proofs.check.sunderwath_check_tables.Reads as reads
-use Rattle.exports.proofs.check.sunderwath_check_tables.Lts as lts
-use Rattle.exports.proofs.answer.no_hash.Reads as no-hash-reads
-use Rattle.exports.proofs.answer.put_answer.Reads as put-answer-reads
-use Rattle.wellformed.proofs.table_fault.Reads as table-fault-reads
 
 -- src/check.rt:31:9
 returns : tie.Need-returns

@@ -3,9 +3,6 @@ use borrow.Author.Tests.{lt-ltb, le-ltb}
 use borrow.Author.Needs.{needs}
 use Rattle.exports.proofs.check.sunderwath_find_property.Statement.{statement}
 use Rattle.exports.proofs.check.sunderwath_find_property.Tie as tie
-use Rattle.exports.proofs.check.sunderwath_find_property.Reads as reads
-use Rattle.exports.proofs.check.sunderwath_find_property.Lts as lts
-use Rattle.tables.proofs.find_property.Reads as find-property-reads
 
 -- src/check.rt:43:9
 find-property-requires : tie.Need-find-property-requires

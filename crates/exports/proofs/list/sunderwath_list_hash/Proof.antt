@@ -6,10 +6,6 @@ use Rattle.affinity.proofs.SlotClaims.{hash-place-le}
 use borrow.Author.Needs.{needs}
 use Rattle.exports.proofs.list.sunderwath_list_hash.Statement.{statement}
 use Rattle.exports.proofs.list.sunderwath_list_hash.Tie as tie
-use Rattle.exports.proofs.list.sunderwath_list_hash.Reads as reads
-use Rattle.exports.proofs.list.sunderwath_list_hash.Lts as lts
-use Rattle.affinity.proofs.list_hash.Reads as list-hash-reads
-use Rattle.exports.proofs.answer.put_answer.Reads as put-answer-reads
 
 -- src/lib.rt:50:9
 returns : tie.Need-returns

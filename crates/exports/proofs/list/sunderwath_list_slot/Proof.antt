@@ -6,11 +6,6 @@ use Rattle.affinity.proofs.SlotClaims.{slot-place-le}
 use borrow.Author.Needs.{needs}
 use Rattle.exports.proofs.list.sunderwath_list_slot.Statement.{statement}
 use Rattle.exports.proofs.list.sunderwath_list_slot.Tie as tie
-use Rattle.exports.proofs.list.sunderwath_list_slot.Reads as reads
-use Rattle.exports.proofs.list.sunderwath_list_slot.Lts as lts
-use Rattle.affinity.proofs.list_slot.Reads as list-slot-reads
-use Rattle.exports.proofs.answer.no_hash.Reads as no-hash-reads
-use Rattle.exports.proofs.answer.put_answer.Reads as put-answer-reads
 
 -- src/lib.rt:65:9
 returns : tie.Need-returns

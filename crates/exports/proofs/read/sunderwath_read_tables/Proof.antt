@@ -9,10 +9,6 @@ use Rattle.board.proofs.BoundLaws.{answer-place, answer-count}
 use borrow.Author.Needs.{needs}
 use Rattle.exports.proofs.read.sunderwath_read_tables.Statement.{statement}
 use Rattle.exports.proofs.read.sunderwath_read_tables.Tie as tie
-use Rattle.exports.proofs.read.sunderwath_read_tables.Reads as reads
-use Rattle.exports.proofs.read.sunderwath_read_tables.Lts as lts
-use Rattle.board.proofs.read_tables.Reads as read-tables-reads
-use Rattle.exports.proofs.answer.put_answer.Reads as put-answer-reads
 
 -- src/read.rt:37:9
 returns : tie.Need-returns

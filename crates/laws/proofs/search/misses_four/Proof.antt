@@ -1,7 +1,7 @@
 -- `misses_four` meets its contract: room for four, and four comparisons. Assumes nothing.
 use mathlib.Core.Path.{_≡_}
-use mathlib.Core.Bool.{true, false}
-use Prim.Native.Nat.{_+_, _≤_, _<_}
+use mathlib.Core.Bool.{true}
+use Prim.Native.Nat.{_+_, _<_}
 use native.Mathlib.Omega.{arith}
 use lib.Dec.{leb}
 use lib.ListN.{length}
