@@ -7,71 +7,71 @@ mod say;
 mod table;
 
 use names::TopologyName;
+ghost use mathlib.Core.Path.{_≡_};
+ghost use Prim.Native.Nat.{_+_, _<_};
+ghost use lib.ListN.{length};
 
 // The hash of a list, and the slot of each of its MPIDRs.
-fn hash(label: &[u8], list: &[u64]) {
+fn hash(n: u64, list: &[u64]) {
     let found = affinity::list_hash(list);
     let h = found.hash;
-    let shifts = h.shifts;
-    say::text(label);
-    say::text(b": mask ");
-    say::hex(h.mask);
-    say::text(b", shifts");
-    say::words(&shifts);
-    say::text(b", bits ");
-    say::number(h.bits as u64);
+    say::case(b"H", n);
+    say::hash(h);
     say::text(b", slots");
     slots(list);
-    say::text(b"\n");
+    say::end_line();
 }
 
-// The slot of each MPIDR of a list.
 fn slots(list: &[u64]) {
     let mut i: usize = 0;
     while i < list.len() {
-        let one = affinity::list_slot(list[i], list);
-        say::word(one.slot);
-        i += 1;
+        i = slot(list, i);
     }
+}
+
+// The slot of the MPIDR at a place; gives the next place.
+fn slot(list: &[u64], i: usize) -> usize
+    requires { ⌜ i < length (now list) ⌝ }
+    ensures { λ r. ⌜ r ≡ i + 1 ⌝ }
+{
+    let one = affinity::list_slot(list[i], list);
+    say::word(one.slot);
+    i + 1
 }
 
 // What a name is.
-fn name(label: &[u8], bytes: &[u8]) {
-    say::text(label);
-    say::text(b": ");
+fn name(n: u64, bytes: &[u8]) {
+    say::case(b"N", n);
     say::text(bytes);
     say::text(b" is ");
-    match names::name_of(bytes) {
-        TopologyName::Socket(n) => numbered(b"socket ", n),
-        TopologyName::Cluster(n) => numbered(b"cluster ", n),
-        TopologyName::Core(n) => numbered(b"core ", n),
-        TopologyName::Thread(n) => numbered(b"thread ", n),
-        TopologyName::Other => say::text(b"none"),
-    }
-    say::text(b"\n");
+    kind(names::name_of(bytes));
+    say::end_line();
 }
 
-fn numbered(kind: &[u8], n: u32) {
-    say::text(kind);
-    say::number(n as u64);
+fn kind(name: TopologyName) {
+    match name {
+        TopologyName::Socket(n) => say::told(b"socket ", n as u64),
+        TopologyName::Cluster(n) => say::told(b"cluster ", n as u64),
+        TopologyName::Core(n) => say::told(b"core ", n as u64),
+        TopologyName::Thread(n) => say::told(b"thread ", n as u64),
+        TopologyName::Other => say::text(b"none"),
+    }
 }
 
 // A refusal of a list: its number and place.
 fn refusal(label: &[u8], mpidr: u64, list: &[u64]) {
     let one = affinity::list_slot(mpidr, list);
     say::text(label);
-    say::text(b": number ");
-    say::number(one.number as u64);
-    say::text(b", place ");
-    say::number(one.place as u64);
-    say::text(b"\n");
+    say::told(b": number ", one.number as u64);
+    say::told(b", place ", one.place as u64);
+    say::end_line();
 }
 
 // H1 to H7.
 fn lists() {
-    hash(b"H1", &[0x0]);
+    hash(1, &[0x0]);
     hash(
-        b"H2",
+        2,
         &[
             0x0,
             0x1,
@@ -91,21 +91,21 @@ fn lists() {
             0x100010101,
         ],
     );
-    hash(b"H3", &[0x0, 0x1, 0x2, 0x3, 0x100, 0x101, 0x102, 0x103]);
-    hash(b"H4", &[0x2, 0x80]);
-    hash(b"H5", &[0xF00, 0xF01, 0xF02, 0xF03]);
-    hash(b"H6", &[0x0, 0xFF00FFFFFF]);
-    hash(b"H7", &[0x0, 0x5]);
+    hash(3, &[0x0, 0x1, 0x2, 0x3, 0x100, 0x101, 0x102, 0x103]);
+    hash(4, &[0x2, 0x80]);
+    hash(5, &[0xF00, 0xF01, 0xF02, 0xF03]);
+    hash(6, &[0x0, 0xFF00FFFFFF]);
+    hash(7, &[0x0, 0x5]);
 }
 
 // N1 to N6.
 fn topology_names() {
-    name(b"N1", b"cluster0");
-    name(b"N2", b"core10");
-    name(b"N3", b"core01");
-    name(b"N4", b"thread");
-    name(b"N5", b"socket9999");
-    name(b"N6", b"socket10000");
+    name(1, b"cluster0");
+    name(2, b"core10");
+    name(3, b"core01");
+    name(4, b"thread");
+    name(5, b"socket9999");
+    name(6, b"socket10000");
 }
 
 fn main() {

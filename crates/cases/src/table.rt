@@ -7,8 +7,11 @@ ghost use Rattle.io.specs.Counts.{Counts};
 // What the row buffer holds before a board is read.
 pub const UNTOUCHED: u32 = 0x5AFEC0DE;
 
+// More rows than this are shown by the first, the last and a checksum.
+const SHOWN_WHOLE: usize = 20;
+
 // The words of some rows, as far as the buffer has them.
-pub fn count(rows: usize, words: &[u32]) -> usize
+pub fn count_words(rows: usize, words: &[u32]) -> usize
     ensures { λ r. ⌜ Counts r (now (words .entry)) ⌝ }
 {
     if words.len() / ROW_WORDS < rows {
@@ -20,66 +23,75 @@ pub fn count(rows: usize, words: &[u32]) -> usize
 
 // Whether all words are as they were before the board was read.
 pub fn untouched(words: &[u32]) {
-    if is_untouched(words) {
+    let sum = pass(words, 0, words.len());
+    if sum.changed == 0 {
         say::text(b"untouched\n");
     } else {
         say::text(b"changed\n");
     }
 }
 
-fn is_untouched(words: &[u32]) -> bool {
-    let mut i: usize = 0;
-    while i < words.len() {
-        if words[i] != UNTOUCHED {
-            return false;
-        }
-        i += 1;
-    }
-    true
-}
-
-// Each row on a line of its own.
-pub fn rows(words: &[u32]) {
-    let mut i: usize = 0;
-    while i < words.len() {
-        entry(words[i], i % ROW_WORDS);
-        i += 1;
-    }
-}
-
-// A word of a row. A gap is shown as such in the words that may have one, which are 4 to 10.
-fn entry(word: u32, column: usize) {
-    if word == GAP && 4 <= column && column <= 10 {
-        say::text(b" -");
+// Rows, each on a line of its own; many by the first, the last and a checksum of all words.
+pub fn rows(count: usize, words: &[u32]) {
+    if count > SHOWN_WHOLE {
+        ends(words);
     } else {
-        say::word(word);
-    }
-    if column == ROW_WORDS - 1 {
-        say::text(b"\n");
+        pass(words, 0, 0);
     }
 }
 
-// The first and the last row, and a checksum of all words.
-pub fn ends(words: &[u32]) {
-    let first = count(1, words);
-    let last = words.len() - first;
-    rows(&words[..first]);
-    rows(&words[last..]);
-    say::text(b" checksum ");
-    say::number(checksum(words) as u64);
-    say::text(b"\n");
+fn ends(words: &[u32]) {
+    let first = count_words(1, words);
+    let sum = pass(words, first, words.len() - first);
+    say::told(b" checksum ", sum.checksum as u64);
+    say::end_line();
 }
 
-fn checksum(words: &[u32]) -> u32 {
-    let mut sum: u32 = 0;
+// What words come to: a checksum, and the bits that are not as they were before the board was read.
+struct Sum {
+    checksum: u32,
+    changed: u32,
+}
+
+// Goes over words and shows them as rows, but none from one place to another.
+fn pass(words: &[u32], from: usize, to: usize) -> Sum {
+    let mut sum = Sum {
+        checksum: 0,
+        changed: 0,
+    };
     let mut i: usize = 0;
     while i < words.len() {
-        sum = mixed(sum, words[i]);
+        let word = words[i];
+        sum = added(sum, word);
+        if i < from || to <= i {
+            entry(word, i % ROW_WORDS);
+        }
         i += 1;
     }
     sum
 }
 
-fn mixed(sum: u32, word: u32) -> u32 {
-    ((sum as u64 * 31 + word as u64) % 4294967296) as u32
+fn added(sum: Sum, word: u32) -> Sum {
+    Sum {
+        checksum: ((sum.checksum as u64 * 31 + word as u64) % 4294967296) as u32,
+        changed: sum.changed | (word ^ UNTOUCHED),
+    }
+}
+
+// A word of a row. A gap is shown as such, but in the last word: that is the slot, which can have a gap's value.
+fn entry(word: u32, column: usize) {
+    if column == ROW_WORDS - 1 {
+        say::word(word);
+        say::end_line();
+    } else {
+        cell(word);
+    }
+}
+
+fn cell(word: u32) {
+    if word == GAP {
+        say::text(b" -");
+    } else {
+        say::word(word);
+    }
 }

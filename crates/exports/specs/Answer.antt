@@ -12,8 +12,8 @@ answerSize = 10
 -- number, place, a third word (count or slot), mask low, mask high, four shifts, bits
 unfoldable pub answerWords : ℕ → ℕ → ℕ → Hash → List ℕ
 answerWords number place third h =
-    number ∷ place ∷ third ∷ h .mask % 2 ^ 32 ∷ h .mask / 2 ^ 32 ∷ getD (h .shifts) 0 0 ∷ getD (h .shifts) 1 0 ∷ getD (h .shifts) 2 0 ∷ getD (h .shifts) 3 0
-    ∷ h .bits ∷ []
+    number ∷ place ∷ third ∷ h .mask % 2 ^ 32 ∷ h .mask / 2 ^ 32
+    ∷ getD (h .shifts) 0 0 ∷ getD (h .shifts) 1 0 ∷ getD (h .shifts) 2 0 ∷ getD (h .shifts) 3 0 ∷ h .bits ∷ []
 
 -- 49 where the answer is shorter than ten words, before any other check
 abbrev pub orShort : List ℕ → ℕ → ℕ

@@ -1,30 +1,25 @@
 // The ten words of an answer.
 use affinity::Hash;
 ghost use mathlib.Core.Path.{_≡_};
-ghost use mathlib.Core.List.{_++_};
 ghost use Prim.Native.Nat.{_≤_};
-ghost use lib.ListN.{length, drop};
-ghost use Rattle.affinity.specs.List.{noHash};
-ghost use Rattle.exports.specs.Answer.{answerSize, answerWords};
+ghost use lib.ListN.{length};
+ghost use Rattle.exports.specs.Answer.{answerSize, answerWords, orShort, answered};
 
 // The words of an answer.
 pub const ANSWER_WORDS: usize = 10;
 
 // A hash of zeros, for answers that have none.
-pub fn no_hash() -> Hash
-    ensures { λ r. ⌜ r ≡ noHash ⌝ }
-{
-    Hash {
-        mask: 0,
-        shifts: [0; 4],
-        bits: 0,
-    }
-}
+pub const NO_HASH: Hash = Hash {
+    mask: 0,
+    shifts: [0; 4],
+    bits: 0,
+};
 
-// Writes the ten words of an answer at its start.
-pub fn put_answer(answer: &mut [u32], number: u32, place: u32, third: u32, hash: Hash)
+// Writes the ten words at the start of an answer that has room for them, and gives its number: what each call owes.
+pub fn put_answer(answer: &mut [u32], number: u32, place: u32, third: u32, hash: Hash) -> u32
     requires { ⌜ answerSize ≤ length (now answer) ⌝ }
-    ensures { λ _. ⌜ now (answer .exit) ≡ answerWords number place third hash ++ drop answerSize (now (answer .entry)) ⌝ }
+    ensures number { λ r. ⌜ r ≡ orShort (now (answer .entry)) number ⌝ }
+    ensures answer { λ _. ⌜ now (answer .exit) ≡ answered (now (answer .entry)) (answerWords number place third hash) ⌝ }
 {
     let shifts = hash.shifts;
     answer[0] = number;
@@ -37,4 +32,5 @@ pub fn put_answer(answer: &mut [u32], number: u32, place: u32, third: u32, hash:
     answer[7] = shifts[2];
     answer[8] = shifts[3];
     answer[9] = hash.bits;
+    number
 }

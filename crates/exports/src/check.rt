@@ -1,6 +1,6 @@
 // Rules 1 to 8 and the lookup of a property, for tests.
 use crate::answer::ANSWER_WORDS;
-use crate::answer::no_hash;
+use crate::answer::NO_HASH;
 use crate::answer::put_answer;
 use laws::SHORT_ANSWER;
 use tables::Lookup;
@@ -30,8 +30,7 @@ pub extern "C" fn sunderwath_check_tables(
         return SHORT_ANSWER;
     }
     let fault = wellformed::table_fault(width, nodes, props, pool);
-    put_answer(answer, fault.number, fault.place as u32, 0, no_hash());
-    fault.number
+    put_answer(answer, fault.number, fault.place as u32, 0, NO_HASH)
 }
 
 // The record number of a node's property, or 0xFFFFFFFF.

@@ -1,6 +1,6 @@
 // The two calls on a list of MPIDRs.
 use crate::answer::ANSWER_WORDS;
-use crate::answer::no_hash;
+use crate::answer::NO_HASH;
 use crate::answer::put_answer;
 use laws::SHORT_ANSWER;
 ghost use mathlib.Core.Path.{_≡_};
@@ -19,8 +19,7 @@ pub extern "C" fn sunderwath_list_hash(list: &[u64], answer: &mut [u32]) -> u32
     }
     let found = affinity::list_hash(list);
     let hash = found.hash;
-    put_answer(answer, found.number, found.place as u32, 0, hash);
-    found.number
+    put_answer(answer, found.number, found.place as u32, 0, hash)
 }
 
 // The slot of one MPIDR in a list of MPIDRs.
@@ -38,7 +37,6 @@ pub extern "C" fn sunderwath_list_slot(mpidr: u64, list: &[u64], answer: &mut [u
         found.number,
         found.place as u32,
         found.slot,
-        no_hash(),
-    );
-    found.number
+        NO_HASH,
+    )
 }

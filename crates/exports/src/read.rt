@@ -40,6 +40,5 @@ pub extern "C" fn sunderwath_read_tables(
         found.place as u32,
         found.count as u32,
         hash,
-    );
-    found.number
+    )
 }

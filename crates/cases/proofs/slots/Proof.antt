@@ -14,20 +14,8 @@ abbrev μ-loop : tie.MeasureT-loop
 loop-holds : tie.Need-loop-holds Inv-loop μ-loop
 loop-holds c = search needs
 
-mul-list-slot : tie.Need-mul-list-slot Inv-loop μ-loop
-mul-list-slot c = search needs
-
-shared-slice-read-list-slot : tie.Need-shared-slice-read-list-slot Inv-loop μ-loop
-shared-slice-read-list-slot c = search needs
-
-list-slot-requires : tie.Need-list-slot-requires Inv-loop μ-loop
-list-slot-requires c κs = search needs
-
-word-requires : tie.Need-word-requires Inv-loop μ-loop
-word-requires c κs = search needs
-
-add-i : tie.Need-add-i Inv-loop μ-loop
-add-i c = search needs
+slot-requires : tie.Need-slot-requires Inv-loop μ-loop
+slot-requires c κs = search needs
 
 loop-less : tie.Need-loop-less Inv-loop μ-loop
 loop-less c = search needs
@@ -40,16 +28,4 @@ returns c = search needs
 
 pub slots-spec : {M : Type 1} → statement M
 slots-spec =
-    tie.close
-    (tie.spec
-    Inv-loop
-    μ-loop
-    loop-holds
-    mul-list-slot
-    shared-slice-read-list-slot
-    list-slot-requires
-    word-requires
-    add-i
-    loop-less
-    loop-again
-    returns)
+    tie.close (tie.spec Inv-loop μ-loop loop-holds slot-requires loop-less loop-again returns)

@@ -4,31 +4,24 @@ use borrow.Author.Needs.{needs}
 use Rattle.exports.proofs.check.sunderwath_find_property.Statement.{statement}
 use Rattle.exports.proofs.check.sunderwath_find_property.Tie as tie
 
--- src/check.rt:43:9
 find-property-requires : tie.Need-find-property-requires
 find-property-requires c κs = search needs
 
--- src/check.rt:44:20
 enum-known-found : tie.Need-enum-known-found
 enum-known-found c = search needs
 
--- src/check.rt:45:9
 enum-told : tie.Need-enum-told
 enum-told c = search needs
 
--- src/check.rt:45:9
 returns : tie.Need-returns
 returns c = rw (← c .before .before .find-property .ensures, c .enum-told .given .1)
 
--- src/check.rt:48:16
 cast-result : tie.Need-cast-result
 cast-result c = search needs
 
--- src/check.rt:48:9
 returns-2 : tie.Need-returns-2
 returns-2 c = rw (← c .before .before .before .before .find-property .ensures, c .before .before .found .given .1, lt-ltb _ _ (c .if1 .taken))
 
--- src/check.rt:39:1
 returns-3 : tie.Need-returns-3
 returns-3 c = rw (← c .before .before .before .before .find-property .ensures, c .before .before .found .given .1, le-ltb _ _ (c .if1 .left))
 

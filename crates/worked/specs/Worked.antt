@@ -50,5 +50,6 @@ defined (Case.hash list shifts bits slots) = Case.hash list (hashOf list .shifts
 defined (Case.name bytes is) = Case.name bytes (nameOf bytes)
 
 pub worked-hold : map defined worked ≡ worked
-unfolding worked digit fromDigits anyBelow differing maskOf leadingZeros trailingZeros lowOf topOf widthOf levelPart bitsBelow shiftOf shiftsOf hashOfMask levelSlot slotOf startsWith digitsFrom numberOf nameOf
+unfolding worked digit fromDigits anyBelow differing maskOf leadingZeros trailingZeros lowOf topOf widthOf levelPart
+    bitsBelow shiftOf shiftsOf hashOfMask levelSlot slotOf startsWith digitsFrom numberOf nameOf
 worked-hold = refl

@@ -1,0 +1,8 @@
+-- A word holds a place or a count that a law bounds. Assumes nothing.
+use Prim.Native.Nat.{ℕ, _≤_, _<_, _^_}
+use native.Mathlib.Omega.{arith}
+use mir.Syntax.{w32}
+use mir.Val.{Fits}
+
+pub word-holds : {n most : ℕ} → n ≤ most → most < 2 ^ 32 → Fits w32 n
+word-holds bound fits = omega arith
