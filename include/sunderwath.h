@@ -85,13 +85,13 @@ extern "C" {
 #define SUNDERWATH_MAX_CPUS 256
 
 /*
- * The stack that sunderwath_read_tables needs at most. Measured on x86-64 and
- * rounded up, not proved: the proof is about a machine without a stack. The
- * most is needed by 1,024 records nested in the map or below a cpu, as the
- * ancestor test of rule 6 recurses on the parent; boards of 16 and of 256 cpus
- * need 21 KiB. tests/c/stack_test.c measures these boards.
+ * The bytes of stack that sunderwath_read_tables needs at most. Measured on
+ * x86-64, not proved: the proof is about a machine without a stack. The most is
+ * needed by 1,024 records nested in the map or below a cpu, as the ancestor
+ * test of rule 6 recurses on the parent; boards of 16 and of 256 cpus need
+ * 16,656 bytes. tests/c/stack_test.c measures these boards.
  */
-#define SUNDERWATH_STACK_BYTES (53 * 1024)
+#define SUNDERWATH_STACK_BYTES 49264
 
 /*
  * The numbers, in the order of checking. Each comment says what is wrong and,
