@@ -38,8 +38,3 @@ pub record Lists (b : Board) (cpus₀ mpidrs₀ leaves₀ named₀ cpus mpidrs l
   pub mpidrs-laid : mpidrs ≡ over (mpidrList b) mpidrs₀
   pub leaves-laid : leaves ≡ over (leavesOf b) leaves₀
   pub named-laid : named ≡ over (namedOf b) named₀
-
--- so they are left where no rule is broken
-abbrev pub Left : Board → (cpus₀ mpidrs₀ leaves₀ named₀ cpus mpidrs leaves named : List ℕ) → Type 0
-Left b cpus₀ mpidrs₀ leaves₀ named₀ cpus mpidrs leaves named =
-    surveyFault b .number ≡ 0 → Lists b cpus₀ mpidrs₀ leaves₀ named₀ cpus mpidrs leaves named

@@ -7,7 +7,7 @@ use keys::KEY_WORDS;
 use laws::BAD_CPUS_NODE;
 ghost use mathlib.Core.Path.{_≡_};
 ghost use Rattle.tables.specs.Board.{board};
-ghost use Rattle.board.specs.Survey.{stopped, surveyOf, Left};
+ghost use Rattle.board.specs.Survey.{stopped, surveyFault, surveyOf, Lists};
 
 fn stop(number: u32, place: usize) -> Surveyed
     ensures { λ r. ⌜ r ≡ stopped number place ⌝ }
@@ -34,9 +34,11 @@ pub fn survey(
     ensures answer { λ r.
         let b = board width (now (nodes .entry)) (now (props .entry)) (now (pool .entry)) in
         ⌜ r ≡ surveyOf b ⌝ }
-    ensures lists { λ r.
+    ensures lists { λ _.
         let b = board width (now (nodes .entry)) (now (props .entry)) (now (pool .entry)) in
-        ⌜ Left b (now (cpus .entry)) (now (mpidrs .entry)) (now (leaves .entry)) (now (named .entry)) (now (cpus .exit)) (now (mpidrs .exit)) (now (leaves .exit)) (now (named .exit)) ⌝ }
+        ⌜ (surveyFault b .number ≡ 0
+        → Lists b (now (cpus .entry)) (now (mpidrs .entry)) (now (leaves .entry)) (now (named .entry))
+        (now (cpus .exit)) (now (mpidrs .exit)) (now (leaves .exit)) (now (named .exit))) ⌝ }
 {
     let fault = wellformed::table_fault(width, nodes, props, pool);
     if fault.number != 0 {
