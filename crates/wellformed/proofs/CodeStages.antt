@@ -7,7 +7,8 @@ use Rattle.laws.specs.Fault.{told, orElse, firstFault, orNumber}
 use Rattle.laws.proofs.FaultLaws.{or-first, or-second}
 use Rattle.laws.proofs.OrElseLaws.{told-or, told-first, told-second}
 use Rattle.tables.specs.Board.{Board, nodeCount, propCount}
-use Rattle.wellformed.specs.Check.{widthFault, nodeWordsFault, propWordsFault, poolFault, nodeFault, propertyFault, tableFault}
+use Rattle.records.specs.Check.{nodeFault, propertyFault}
+use Rattle.wellformed.specs.Check.{widthFault, nodeWordsFault, propWordsFault, poolFault, tableFault}
 
 module _ (b : Board) where
   abbrev shapeFault : ℕ

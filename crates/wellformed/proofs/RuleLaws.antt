@@ -17,7 +17,8 @@ use Rattle.wellformed.specs.Limits.{maxProperties}
 use Rattle.tables.specs.Board.{Board, nodeCount, propCount}
 use Rattle.wellformed.specs.Order.{stage}
 use Rattle.wellformed.specs.Rules.{TableRule, WellFormed}
-use Rattle.wellformed.specs.Check.{widthFault, nodeWordsFault, propWordsFault, poolFault, nodeFault, propertyFault, tableFault}
+use Rattle.records.specs.Check.{nodeFault, propertyFault}
+use Rattle.wellformed.specs.Check.{widthFault, nodeWordsFault, propWordsFault, poolFault, tableFault}
 use Rattle.wellformed.proofs.SoundLaws.{Verdict, Verdicts, width-told, nodes-told, props-told, pool-told, node-told, property-told}
 
 -- a rule that is broken at a place is told there, or one of its stage with a smaller number

@@ -12,11 +12,13 @@ use Rattle.laws.specs.Search.{anyBelow}
 use Rattle.laws.proofs.SearchLaws.{any-at, any-place, true-false}
 use Rattle.laws.proofs.SameLaws.{same-refl, same-equal}
 use Rattle.laws.proofs.TestLaws.{both-true}
-use Rattle.wellformed.specs.Limits.{maxNodes, maxProperties, maxPool, maxNodeName, maxPropertyName, noParent}
+use Rattle.records.specs.Limits.{maxNodeName, maxPropertyName, noParent}
+use Rattle.wellformed.specs.Limits.{maxNodes, maxProperties, maxPool}
 use Rattle.tables.specs.Board.{Board, Inside, nodeCount, parentWord, nameOffset, nameLength, propCount, propNode, propName, keyOffset, keyLength, valueOffset, valueLength}
 use Rattle.tables.specs.Tree.{isBelow, Ancestor}
 use Rattle.wellformed.specs.Rules.{TableRule}
-use Rattle.wellformed.specs.Check.{widthFault, nodeWordsFault, propWordsFault, poolFault, soundName, soundParent, nodeFault, soundWords, soundProperty, sameProperty, propertyFault}
+use Rattle.records.specs.Check.{soundName, soundParent, nodeFault, soundWords, soundProperty, sameProperty, propertyFault}
+use Rattle.wellformed.specs.Check.{widthFault, nodeWordsFault, propWordsFault, poolFault}
 use Rattle.tables.proofs.DepthLaws.{below-test, not-below-test}
 
 -- a test that is true where P holds and false where Q does

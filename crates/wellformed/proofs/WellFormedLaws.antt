@@ -2,7 +2,7 @@
 use mathlib.Core.Path.{_≡_}
 use mathlib.Core.List.{List}
 use Prim.Native.Nat.{ℕ, suc, _<_}
-use Rattle.wellformed.specs.Limits.{maxNodeName}
+use Rattle.records.specs.Limits.{maxNodeName}
 use Rattle.tables.specs.Board.{Board, nodeCount, nameOffset, nameLength, propCount, propNode}
 use Rattle.tables.specs.Property.{Property, HasValue}
 use Rattle.wellformed.specs.Rules.{WellFormed}

@@ -3,4 +3,3 @@ pub mod Limits
 pub mod Order
 pub mod Rules
 pub mod Check
-pub mod Starts

@@ -1,4 +1,4 @@
--- The limits of rules 2 to 7 (01, "The tables").
+-- The limits of rules 2 to 4 (01, "The tables").
 use Prim.Native.Nat.{ℕ}
 
 abbrev pub maxNodes : ℕ
@@ -9,13 +9,3 @@ maxProperties = 4096
 
 abbrev pub maxPool : ℕ
 maxPool = 65536
-
-abbrev pub maxNodeName : ℕ
-maxNodeName = 64
-
-abbrev pub maxPropertyName : ℕ
-maxPropertyName = 31
-
--- the parent word of record 0
-abbrev pub noParent : ℕ
-noParent = 0xFFFFFFFF

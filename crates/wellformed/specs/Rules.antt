@@ -3,7 +3,8 @@ use mathlib.Core.Path.{_≡_}
 use mathlib.Core.Logic.{_⊎_}
 use Prim.Native.Nat.{ℕ, suc, _%_, _<_, _≤_}
 use lib.ListN.{length}
-use Rattle.wellformed.specs.Limits.{maxNodes, maxProperties, maxPool, maxNodeName, maxPropertyName, noParent}
+use Rattle.records.specs.Limits.{maxNodeName, maxPropertyName, noParent}
+use Rattle.wellformed.specs.Limits.{maxNodes, maxProperties, maxPool}
 use Rattle.tables.specs.Board.{Board, Inside, nodeCount, parentWord, nameOffset, nameLength, propCount, propNode, keyOffset, keyLength, propName, valueOffset, valueLength}
 use Rattle.tables.specs.Tree.{Ancestor}
 

@@ -1,8 +1,8 @@
 // Rules 1 to 8 in the order of checking.
-use crate::nodes::first_node_fault;
-use crate::properties::first_property_fault;
 use crate::shape::shape_fault;
 use laws::Fault;
+use records::first_node_fault;
+use records::first_property_fault;
 ghost use mathlib.Core.Path.{_≡_};
 ghost use Rattle.tables.specs.Board.{board};
 ghost use Rattle.wellformed.specs.Check.{tableFault};

@@ -1,11 +1,7 @@
-// Well-formed tables: rules 1 to 8.
+// Well-formed tables: rules 1 to 4, and all of rules 1 to 8 in their order.
 mod check;
 mod limits;
-mod name;
-mod nodes;
-mod properties;
 mod shape;
-mod starts;
 
 pub use check::table_fault;
 pub use limits::MAX_NODES;

@@ -1,0 +1,4 @@
+-- What the contracts of `records` cite.
+pub mod Limits
+pub mod Check
+pub mod Starts

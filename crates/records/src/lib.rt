@@ -1,0 +1,9 @@
+// Each node record and each property: rules 5 to 8.
+mod limits;
+mod name;
+mod nodes;
+mod properties;
+mod starts;
+
+pub use nodes::first_node_fault;
+pub use properties::first_property_fault;
