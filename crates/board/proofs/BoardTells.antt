@@ -23,7 +23,7 @@ use Rattle.cpus.specs.Check.{cpuCount, cpuList}
 use Rattle.cpus.proofs.CpuMeans.{cpu-listing, cpu-count}
 use Rattle.cpus.proofs.CpuTells.{cpus-tells, phandles-tells}
 use Rattle.leaves.specs.Scan.{treeAt, leavesFault}
-use Rattle.topology.proofs.MapMeans.{map-is}
+use Rattle.cpumap.proofs.MapMeans.{map-is}
 use Rattle.topology.proofs.MapTells.{map-tells}
 use Rattle.leaves.proofs.TreeTells.{tree-tells}
 use Rattle.board.specs.Rules.{Breaks}

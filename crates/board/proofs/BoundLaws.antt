@@ -17,7 +17,7 @@ use Rattle.wellformed.proofs.RuleLaws.{table-place, table-sound}
 use Rattle.wellformed.proofs.WellFormedLaws.{wf-nodes}
 use Rattle.cpus.specs.Check.{cpuCount, cpuList, cpusFault, phandlesFault}
 use Rattle.cpus.proofs.CpuTells.{cpus-place, phandles-place}
-use Rattle.topology.specs.Find.{mapOf, mapFault, noMapFault, secondMapFault}
+use Rattle.cpumap.specs.Find.{mapOf, mapFault, noMapFault, secondMapFault}
 use Rattle.leaves.specs.Scan.{leavesFault, treeOf}
 use Rattle.leaves.proofs.TreeTells.{leaves-place}
 use Rattle.board.specs.Survey.{surveyFault}

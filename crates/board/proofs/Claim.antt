@@ -18,10 +18,10 @@ use Rattle.wellformed.specs.Rules.{WellFormed}
 use Rattle.cpus.specs.Rules.{CpuRule, SoundCpus}
 use Rattle.cpus.specs.Check.{cpuCount, cpuList, mpidrList}
 use Rattle.cpus.proofs.CpuMeans.{cpu-listing, cpu-count}
-use Rattle.topology.specs.Map.{Map}
+use Rattle.cpumap.specs.Map.{Map}
 use Rattle.topology.specs.Rules.{MapRule}
-use Rattle.topology.specs.Find.{mapOf}
-use Rattle.topology.proofs.MapMeans.{map-of, no-map}
+use Rattle.cpumap.specs.Find.{mapOf}
+use Rattle.cpumap.proofs.MapMeans.{map-of, no-map}
 use Rattle.rows.specs.Fits.{Fits}
 use Rattle.rows.specs.Write.{rowsBelow, written, sourceOf}
 use Rattle.rows.proofs.SourceMeans.{leafCount, LeafFacts, leaf-facts, leaf-count, mpidrs-of}

@@ -7,7 +7,7 @@ use Rattle.tables.specs.Board.{Board}
 use Rattle.wellformed.specs.Check.{tableFault}
 use Rattle.cpus.specs.Check.{cpuCount, cpuList, countFault, rootFault, cpusFault, phandlesFault}
 use Rattle.cpus.proofs.CpuMeans.{count-fits}
-use Rattle.topology.specs.Find.{mapFault}
+use Rattle.cpumap.specs.Find.{mapFault}
 use Rattle.leaves.specs.Scan.{leavesFault, treeOf}
 use Rattle.board.specs.Survey.{surveyFault}
 use Rattle.board.specs.Answer.{boardFault, roomFault}

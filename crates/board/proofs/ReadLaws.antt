@@ -15,8 +15,8 @@ use Rattle.affinity.specs.declared.Hash.{Hash}
 use Rattle.affinity.specs.Hash.{hashOf}
 use Rattle.tables.specs.Board.{Board, Typed}
 use Rattle.cpus.specs.Check.{cpuCount, mpidrList}
-use Rattle.topology.specs.declared.MapScan.{MapScan}
-use Rattle.topology.specs.Find.{mapOf, mapFault, mapScan}
+use Rattle.cpumap.specs.declared.MapScan.{MapScan}
+use Rattle.cpumap.specs.Find.{mapOf, mapFault, mapScan}
 use Rattle.leaves.specs.Scan.{leavesOf}
 use Rattle.rows.specs.Write.{written, sourceOf}
 use Rattle.board.specs.declared.BoardAnswer.{BoardAnswer}

@@ -29,7 +29,7 @@ use Rattle.cpus.specs.Check.{isCpu, rootFault, cpuCount, cpuList, countFault, p
 use Rattle.cpus.specs.Gather.{readingAt, readingOf, firstRecord, numbersOver}
 use Rattle.cpus.proofs.CpuMeans.{cpu-count}
 use Rattle.cpus.proofs.ScanLaws.{same-reading, numbers-clear}
-use Rattle.topology.specs.Find.{mapOf, mapFault}
+use Rattle.cpumap.specs.Find.{mapOf, mapFault}
 use Rattle.leaves.specs.Scan.{lentTree, leavesFault, treeOf, leavesOf}
 use Rattle.leaves.proofs.CellLaws.{same-cells}
 use Rattle.leaves.proofs.ScanLaws.{leaves-few}

@@ -12,7 +12,7 @@ use Rattle.tables.specs.Board.{Board}
 use Rattle.wellformed.specs.Rules.{WellFormed}
 use Rattle.cpus.specs.Node.{Cpu}
 use Rattle.cpus.specs.Rules.{SoundCpus}
-use Rattle.topology.specs.Map.{Map}
+use Rattle.cpumap.specs.Map.{Map}
 use Rattle.rows.specs.Fits.{Mpidrs, Fits}
 use Rattle.board.specs.declared.BoardAnswer.{BoardAnswer}
 use Rattle.board.specs.Rules.{Breaks, MapBroken, Room, Told}

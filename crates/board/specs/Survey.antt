@@ -11,7 +11,7 @@ use Rattle.laws.specs.Listed.{over}
 use Rattle.tables.specs.Board.{Board}
 use Rattle.wellformed.specs.Check.{tableFault}
 use Rattle.cpus.specs.Check.{cpusFault, cpuCount, cpuList, mpidrList, phandlesFault}
-use Rattle.topology.specs.Find.{mapFault}
+use Rattle.cpumap.specs.Find.{mapFault}
 use Rattle.leaves.specs.Scan.{treeOf, leavesOf, namedOf, leavesFault}
 use Rattle.board.specs.declared.Surveyed.{Surveyed}
 

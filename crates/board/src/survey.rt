@@ -60,7 +60,7 @@ pub fn survey(
     if fault.number != 0 {
         return stop(fault.number, fault.place);
     }
-    let map = topology::find_map(nodes, pool);
+    let map = cpumap::find_map(nodes, pool);
     if map.number != 0 {
         return stop(map.number, map.place);
     }

@@ -10,8 +10,9 @@ use Rattle.laws.proofs.SearchLaws.{true-false}
 use Rattle.laws.proofs.FaultLaws.{or-number-zero, or-number-right}
 use Rattle.tables.specs.Tree.{isBelow}
 use Rattle.leaves.specs.declared.RecordCheck.{RecordCheck}
-use Rattle.topology.specs.Path.{topologyName}
-use Rattle.topology.specs.Check.{kindNumber, groupFault, isLeafName, mapRecordFault, mapRecordShape, recordShape}
+use Rattle.cpumap.specs.Path.{topologyName}
+use Rattle.cpumap.specs.Number.{kindNumber}
+use Rattle.topology.specs.Check.{groupFault, isLeafName, mapRecordFault, mapRecordShape, recordShape}
 use Rattle.leaves.specs.Check.{leafCpu, broken, recordCheck}
 use Rattle.leaves.specs.Scan.{Tree, check, repeatFault, treeFault}
 

@@ -14,13 +14,13 @@ use Rattle.wellformed.proofs.WellFormedLaws.{wf-depth}
 use Rattle.cpus.specs.Rules.{CpuRule}
 use Rattle.cpus.specs.Check.{cpuList}
 use Rattle.leaves.specs.declared.RecordCheck.{RecordCheck}
-use Rattle.topology.specs.Map.{Map, InMap, Leaf, Names}
-use Rattle.topology.specs.Path.{topologyName}
+use Rattle.cpumap.specs.Map.{Map, InMap, Leaf, Names}
+use Rattle.cpumap.specs.Path.{topologyName}
 use Rattle.topology.specs.Check.{hasChild, isLeafName}
 use Rattle.leaves.specs.Scan.{Tree, treeAt, check, isLeaf, cpuOf}
 use Rattle.topology.proofs.ChildMeans.{childless-test}
-use Rattle.topology.proofs.NameFacts.{Says, topology-is, topology-says}
-use Rattle.topology.proofs.MapMeans.{in-map-below}
+use Rattle.cpumap.proofs.NameFacts.{Says, topology-is, topology-says}
+use Rattle.cpumap.proofs.MapMeans.{in-map-below}
 use Rattle.leaves.proofs.CheckCases.{shapeNumber, answers-number, Under, Checked, checked}
 use Rattle.leaves.proofs.LeafCount.{leaf-is}
 use Rattle.leaves.proofs.PhandleMeans.{cpuAt, cpuIndex, in-cpus}

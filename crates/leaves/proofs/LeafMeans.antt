@@ -20,7 +20,7 @@ use Rattle.cpus.specs.Rules.{CpuRule}
 use Rattle.cpus.specs.Cell.{cellOf}
 use Rattle.cpus.specs.Check.{cpuList, phandleList}
 use Rattle.cpus.proofs.ValueMeans.{value-unique, cell-test, test-cell}
-use Rattle.topology.specs.Map.{Names}
+use Rattle.cpumap.specs.Map.{Names}
 use Rattle.leaves.specs.Check.{indexOf, leafCpu, cpuCells}
 use Rattle.leaves.proofs.PhandleMeans.{cpuAt, cpuIndex, in-cpus, in-phandles, cpu-index, index-cpu, phandle-at, index-apart}
 

@@ -12,7 +12,7 @@ use Rattle.cpus.specs.Node.{Cpu}
 use Rattle.cpus.specs.Rules.{CpuRule}
 use Rattle.cpus.specs.Check.{isCpu}
 use Rattle.cpus.proofs.CpuMeans.{cpu-test}
-use Rattle.topology.specs.Map.{Map, Leaf, Names}
+use Rattle.cpumap.specs.Map.{Map, Leaf, Names}
 use Rattle.topology.specs.Rules.{MapRule}
 use Rattle.leaves.specs.Scan.{Tree, treeAt, check, isLeaf, cpuOf, namedBelow, repeatFault}
 use Rattle.leaves.proofs.LeafCount.{named-at, named-by}

@@ -15,7 +15,7 @@ use Rattle.cpus.specs.Node.{Cpu}
 use Rattle.cpus.specs.Rules.{maxCpus, CpuRule, SoundCpus}
 use Rattle.cpus.specs.Check.{cpuList}
 use Rattle.cpus.proofs.CpuMeans.{cpu-listing}
-use Rattle.topology.specs.Map.{Map, Leaf, Names}
+use Rattle.cpumap.specs.Map.{Map, Leaf, Names}
 use Rattle.topology.specs.Rules.{MapRule}
 use Rattle.leaves.specs.Scan.{Tree, treeAt, check, isLeaf, cpuOf, namedBelow, leafList}
 use Rattle.leaves.proofs.PhandleMeans.{cpuAt, cpuIndex, phandle-count, few-phandles}

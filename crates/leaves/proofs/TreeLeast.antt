@@ -14,12 +14,12 @@ use Rattle.tables.specs.Board.{Board, Typed, nodeCount}
 use Rattle.wellformed.specs.Rules.{WellFormed}
 use Rattle.cpus.specs.Rules.{CpuRule, SoundCpus}
 use Rattle.leaves.specs.declared.RecordCheck.{RecordCheck}
-use Rattle.topology.specs.Map.{Map, InMap, Leaf}
+use Rattle.cpumap.specs.Map.{Map, InMap, Leaf}
 use Rattle.topology.specs.Rules.{MapRule}
 use Rattle.topology.specs.Check.{groupFault}
 use Rattle.leaves.specs.Scan.{Tree, treeAt, check, repeatFault, treeFault}
-use Rattle.topology.proofs.NameFacts.{root-nameless}
-use Rattle.topology.proofs.MapMeans.{outside-is}
+use Rattle.cpumap.proofs.NameFacts.{root-nameless}
+use Rattle.cpumap.proofs.MapMeans.{outside-is}
 use Rattle.topology.proofs.RecordMeans.{record-told}
 use Rattle.topology.proofs.PlaceMeans.{root-told, below-told, map-told, outside-told}
 use Rattle.leaves.proofs.CheckCases.{shapeNumber, strayNumber, leafName, named, Answers, answers-fault, Under, Checked, checked, check-shape, fault-check, check-fault}

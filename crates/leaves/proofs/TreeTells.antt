@@ -17,7 +17,7 @@ use Rattle.wellformed.specs.Order.{stage}
 use Rattle.wellformed.specs.Rules.{WellFormed}
 use Rattle.cpus.specs.Rules.{CpuRule, SoundCpus}
 use Rattle.cpus.specs.Check.{isCpu, cpuList}
-use Rattle.topology.specs.Map.{Map}
+use Rattle.cpumap.specs.Map.{Map}
 use Rattle.topology.specs.Rules.{MapRule}
 use Rattle.leaves.specs.Scan.{Tree, treeAt, check, namedBelow, treeFault, leavesFault}
 use Rattle.leaves.proofs.LeafRules.{unmappedFault, unmapped-tested}

@@ -15,7 +15,7 @@ use Rattle.cpus.specs.Rules.{maxCpus}
 use Rattle.cpus.specs.Check.{phandleList}
 use Rattle.leaves.specs.declared.RecordCheck.{RecordCheck}
 use Rattle.leaves.specs.declared.TreeScan.{TreeScan}
-use Rattle.topology.specs.Find.{mapOf}
+use Rattle.cpumap.specs.Find.{mapOf}
 use Rattle.leaves.specs.Check.{recordCheck, cpuCells, keyCells}
 
 -- The tables, the cells of the records' `cpu`, the map's record and the cpu records' phandles.

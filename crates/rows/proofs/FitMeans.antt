@@ -14,7 +14,7 @@ use Rattle.cpus.specs.Check.{mpidrAt, mpidrList}
 use Rattle.cpus.proofs.PairMeans.{mpidr-parts}
 use Rattle.cpus.proofs.RegMeans.{reg-bounds}
 use Rattle.cpus.proofs.CpuGives.{cpu-reg}
-use Rattle.topology.specs.Map.{Map, Leaf, Names}
+use Rattle.cpumap.specs.Map.{Map, Leaf, Names}
 use Rattle.topology.specs.Rules.{MapRule}
 use Rattle.leaves.specs.Scan.{leavesOf}
 use Rattle.leaves.proofs.CheckLeaf.{leaf-in-map, in-map-inside}

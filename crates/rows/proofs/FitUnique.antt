@@ -17,9 +17,9 @@ use Rattle.wellformed.specs.Rules.{WellFormed}
 use Rattle.tables.proofs.DepthLaws.{child-unique}
 use Rattle.cpus.specs.Rules.{CpuRule, SoundCpus}
 use Rattle.cpus.proofs.RegMeans.{reg-unique}
-use Rattle.topology.specs.Map.{InMap, Is, Leaf}
+use Rattle.cpumap.specs.Map.{InMap, Is, Leaf}
 use Rattle.topology.specs.Rules.{MapRule}
-use Rattle.topology.proofs.NameFacts.{kinds-apart}
+use Rattle.cpumap.proofs.NameFacts.{kinds-apart}
 use Rattle.leaves.proofs.LeafMeans.{names-unique}
 use Rattle.leaves.proofs.CheckLeaf.{leaf-in-map}
 use Rattle.rows.specs.Fits.{Mpidrs, SocketWord, CoreWord, ThreadWord, SlotWord, RowFits, Fits}

@@ -11,9 +11,9 @@ use Rattle.tables.specs.declared.Parent.{Parent}
 use Rattle.tables.specs.declared.Parent.the-variants.{Is, Top}
 use Rattle.tables.specs.Tree.{parentOf}
 use Rattle.tables.proofs.TreeLaws.{parent-is}
-use Rattle.topology.specs.declared.Position.{Position}
-use Rattle.topology.specs.Path.{topologyName, positionStep, positionOf}
-use Rattle.topology.proofs.CodeLaws.{position-is}
+use Rattle.cpumap.specs.declared.Position.{Position}
+use Rattle.cpumap.specs.Path.{topologyName, positionStep, positionOf}
+use Rattle.cpumap.proofs.CodeLaws.{position-is}
 use Rattle.rows.specs.declared.Placed.{Placed}
 use Rattle.rows.specs.Row.{keepsPosition, placed}
 

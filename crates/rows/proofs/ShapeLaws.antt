@@ -10,10 +10,10 @@ use Rattle.tables.specs.Tree.{Child, Ancestor}
 use Rattle.wellformed.specs.Rules.{WellFormed}
 use Rattle.tables.proofs.DepthLaws.{ancestor-earlier, ancestor-cases, ancestor-chain}
 use Rattle.cpus.specs.Rules.{CpuRule, SoundCpus}
-use Rattle.topology.specs.Map.{Map, InMap, Is}
+use Rattle.cpumap.specs.Map.{Map, InMap, Is}
 use Rattle.topology.specs.Rules.{MapRule, Allowed}
-use Rattle.topology.proofs.NameFacts.{cpus-nameless, map-nameless}
-use Rattle.topology.proofs.MapMeans.{map-unique}
+use Rattle.cpumap.proofs.NameFacts.{cpus-nameless, map-nameless}
+use Rattle.cpumap.proofs.MapMeans.{map-unique}
 use Rattle.topology.proofs.KindMeans.{parent-of, allowed-test}
 
 -- record 0, `cpus`, has no kind

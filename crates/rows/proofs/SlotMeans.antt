@@ -14,7 +14,7 @@ use Rattle.cpus.specs.Check.{cpuList, mpidrAt, mpidrList}
 use Rattle.cpus.proofs.CpuMeans.{cpu-listing}
 use Rattle.cpus.proofs.RegMeans.{reg-affine}
 use Rattle.cpus.proofs.CpuGives.{cpu-reg, mpidr-distinct}
-use Rattle.topology.specs.Map.{Leaf, Names}
+use Rattle.cpumap.specs.Map.{Leaf, Names}
 use Rattle.leaves.specs.Scan.{cpuOf, treeOf}
 use Rattle.rows.specs.Row.{rowOf}
 use Rattle.rows.specs.Write.{rowsBelow, sourceOf}

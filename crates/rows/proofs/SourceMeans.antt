@@ -15,11 +15,11 @@ use Rattle.cpus.specs.Rules.{CpuRule, SoundCpus}
 use Rattle.cpus.specs.Check.{cpuCount, cpuList, mpidrAt, mpidrList}
 use Rattle.cpus.proofs.CpuMeans.{cpu-listing, cpu-count}
 use Rattle.cpus.proofs.CpuGives.{cpu-reg}
-use Rattle.topology.specs.Map.{Map, Leaf, Names}
-use Rattle.topology.specs.Find.{mapOf}
+use Rattle.cpumap.specs.Map.{Map, Leaf, Names}
+use Rattle.cpumap.specs.Find.{mapOf}
 use Rattle.topology.specs.Rules.{MapRule}
 use Rattle.leaves.specs.Scan.{cpuOf, treeOf, leavesOf}
-use Rattle.topology.proofs.MapMeans.{map-of, map-found}
+use Rattle.cpumap.proofs.MapMeans.{map-of, map-found}
 use Rattle.leaves.proofs.PhandleMeans.{cpuAt}
 use Rattle.leaves.proofs.TreeGives.{leaf-listing, leaf-names, leaf-cpu, leaves-apart, same-count}
 use Rattle.rows.specs.Row.{rowOf}

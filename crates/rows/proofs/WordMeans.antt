@@ -10,14 +10,14 @@ use Rattle.names.specs.Name.{answered}
 use Rattle.tables.specs.Board.{Board, nodeCount, nodeName, parentWord}
 use Rattle.wellformed.specs.Rules.{WellFormed}
 use Rattle.cpus.specs.Rules.{SoundCpus}
-use Rattle.topology.specs.Map.{Map, Is, Leaf}
+use Rattle.cpumap.specs.Map.{Map, Is, Leaf}
 use Rattle.topology.specs.Rules.{MapRule}
-use Rattle.topology.specs.Path.{topologyName, clusterPath, socketNumber}
-use Rattle.topology.specs.Check.{kindNumber}
-use Rattle.topology.proofs.NameFacts.{kinds-apart, topology-is}
+use Rattle.cpumap.specs.Path.{topologyName, clusterPath, socketNumber}
+use Rattle.cpumap.specs.Number.{kindNumber}
+use Rattle.cpumap.proofs.NameFacts.{kinds-apart, topology-is}
 use Rattle.topology.proofs.KindMeans.{parent-of}
-use Rattle.topology.proofs.PathWords.{PathWord, cluster-above, above-cluster, path-word, path-word-only}
-use Rattle.topology.proofs.SocketMeans as sockets
+use Rattle.cpumap.proofs.PathWords.{PathWord, cluster-above, above-cluster, path-word, path-word-only}
+use Rattle.cpumap.proofs.SocketMeans as sockets
 use Rattle.leaves.proofs.CheckLeaf.{leaf-in-map, in-map-inside}
 use Rattle.rows.specs.Row.{coreOf, threadOf}
 use Rattle.rows.specs.Fits.{SocketWord, ClusterWord, CoreWord, ThreadWord}

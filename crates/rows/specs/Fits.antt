@@ -10,7 +10,7 @@ use Rattle.names.specs.Kind.{Kind, Named}
 use Rattle.tables.specs.Board.{Board, nodeName}
 use Rattle.tables.specs.Tree.{Child, Ancestor}
 use Rattle.cpus.specs.Node.{Cpu, Reg, mpidr}
-use Rattle.topology.specs.Map.{Is, Leaf, Names, ClusterAbove}
+use Rattle.cpumap.specs.Map.{Is, Leaf, Names, ClusterAbove}
 
 -- the MPIDRs of all cpu records, in record order
 pub record Mpidrs (b : Board) (list : List ℕ) : Type 0 where

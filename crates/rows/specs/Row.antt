@@ -9,8 +9,8 @@ use Rattle.names.specs.declared.TopologyName.the-variants.{Socket, Cluster, Cor
 use Rattle.tables.specs.Board.{parentWord}
 use Rattle.tables.specs.declared.Parent.{Parent}
 use Rattle.tables.specs.declared.Parent.the-variants.{Is, Top}
-use Rattle.topology.specs.Path.{topologyName, clusterPath, socketNumber, positionOf}
-use Rattle.topology.specs.Check.{topologyNumber}
+use Rattle.cpumap.specs.Path.{topologyName, clusterPath, socketNumber, positionOf}
+use Rattle.cpumap.specs.Number.{topologyNumber}
 use Rattle.rows.specs.declared.Placed.{Placed}
 use Rattle.rows.specs.declared.NamedCpu.{NamedCpu}
 

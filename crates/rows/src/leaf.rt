@@ -1,18 +1,18 @@
 // The row of one leaf.
 use crate::NamedCpu;
 use crate::Placed;
+use cpumap::Position;
+use cpumap::position_of;
+use cpumap::topology_name;
+use cpumap::topology_number;
 use layout::GAP;
 use layout::Row;
 use names::TopologyName;
 use tables::Parent;
 use tables::parent_of;
-use topology::Position;
-use topology::position_of;
-use topology::topology_name;
-use topology::topology_number;
 ghost use mathlib.Core.Path.{_≡_};
 ghost use Rattle.tables.specs.Board.{parentWord};
-ghost use Rattle.topology.specs.Path.{topologyName, positionOf};
+ghost use Rattle.cpumap.specs.Path.{topologyName, positionOf};
 ghost use Rattle.rows.specs.Row.{coreOf, threadOf, keepsPosition, placed, rowOf};
 
 // The number of a leaf's core: its own, or for a thread that of its parent p.

@@ -2,7 +2,7 @@
 mod leaf;
 mod write;
 
-use topology::Position;
+use cpumap::Position;
 pub use write::write_rows;
 
 // A node record and its position.

@@ -25,14 +25,15 @@ use Rattle.wellformed.specs.Rules.{WellFormed}
 use Rattle.tables.proofs.DepthLaws.{child-unique, first-child}
 use Rattle.tables.proofs.TreeLaws.{the-parent}
 use Rattle.wellformed.proofs.WellFormedLaws.{wf-depth}
-use Rattle.topology.specs.Map.{Map, InMap, Is, FirstChild}
-use Rattle.topology.specs.Path.{topologyName}
+use Rattle.cpumap.specs.Map.{Map, InMap, Is, FirstChild}
+use Rattle.cpumap.specs.Path.{topologyName}
 use Rattle.topology.specs.Rules.{MapRule, Allowed}
-use Rattle.topology.specs.Check.{allowedUnder, allowedInMap, kindNumber, kindFault, numberFault, shapeFault, mapRecordFault}
-use Rattle.topology.proofs.NameFacts.{Says, topology-says, topology-is, topology-cases, is-unique, kinds-apart, kind-number-same, kind-number-of, kind-number-some, map-nameless}
+use Rattle.cpumap.specs.Number.{kindNumber}
+use Rattle.topology.specs.Check.{allowedUnder, allowedInMap, kindFault, numberFault, shapeFault, mapRecordFault}
+use Rattle.cpumap.proofs.NameFacts.{Says, topology-says, topology-is, topology-cases, is-unique, kinds-apart, kind-number-same, kind-number-of, kind-number-some, map-nameless}
 use Rattle.topology.proofs.RuleCases.{WrongKind, MixedKinds, rule-means}
-use Rattle.topology.proofs.MapMeans.{map-unique, in-map-below}
-use Rattle.topology.proofs.WithinMeans.{child-has, within-above, above-within}
+use Rattle.cpumap.proofs.MapMeans.{map-unique, in-map-below}
+use Rattle.cpumap.proofs.WithinMeans.{child-has, within-above, above-within}
 
 module _ (b : Board) (p : ℕ) where
   -- kinds allowed under the map

@@ -16,12 +16,12 @@ use Rattle.laws.proofs.TestedLaws.{Decided, decide-cases, tested-unless}
 use Rattle.tables.specs.Board.{Board, nodeCount, nodeName}
 use Rattle.wellformed.specs.Order.{stage}
 use Rattle.wellformed.specs.Rules.{WellFormed}
-use Rattle.topology.specs.Words.{mapWord}
-use Rattle.topology.specs.Map.{Map}
+use Rattle.cpumap.specs.Words.{mapWord}
+use Rattle.cpumap.specs.Map.{Map}
 use Rattle.topology.specs.Rules.{MapRule}
-use Rattle.topology.specs.Find.{mapOf, noMapFault, secondMapFault, mapFault}
+use Rattle.cpumap.specs.Find.{mapOf, noMapFault, secondMapFault, mapFault}
 use Rattle.topology.proofs.RuleCases.{Group, rule-group}
-use Rattle.topology.proofs.MapMeans.{map-name-test, map-of, map-found, map-is, no-map}
+use Rattle.cpumap.proofs.MapMeans.{map-name-test, map-of, map-found, map-is, no-map}
 
 module _ (b : Board) where
   -- what a broken rule of each of the two stages says

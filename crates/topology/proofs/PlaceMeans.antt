@@ -11,13 +11,14 @@ use Rattle.laws.proofs.TestedLaws.{tested-unless}
 use Rattle.names.specs.Kind.{Kind}
 use Rattle.tables.specs.Board.{Board, nodeCount}
 use Rattle.wellformed.specs.Rules.{WellFormed}
-use Rattle.topology.specs.Map.{Map, InMap, Outside, Is}
-use Rattle.topology.specs.Path.{topologyName}
+use Rattle.cpumap.specs.Map.{Map, InMap, Outside, Is}
+use Rattle.cpumap.specs.Path.{topologyName}
 use Rattle.topology.specs.Rules.{MapRule}
-use Rattle.topology.specs.Check.{kindNumber, groupFault}
-use Rattle.topology.proofs.NameFacts.{kind-number-zero, topology-other, topology-cases}
+use Rattle.cpumap.specs.Number.{kindNumber}
+use Rattle.topology.specs.Check.{groupFault}
+use Rattle.cpumap.proofs.NameFacts.{kind-number-zero, topology-other, topology-cases}
 use Rattle.topology.proofs.RuleCases.{Group, rule-group}
-use Rattle.topology.proofs.MapMeans.{map-unique, map-not-below, in-map-later, outside-not-map, outside-not-below}
+use Rattle.cpumap.proofs.MapMeans.{map-unique, map-not-below, in-map-later, outside-not-map, outside-not-below}
 use Rattle.topology.proofs.RecordMeans.{group-tested}
 
 -- which of the records that rules 18 to 25 speak of a record is

@@ -24,15 +24,16 @@ use Rattle.wellformed.specs.Rules.{WellFormed}
 use Rattle.tables.proofs.DepthLaws.{child-unique}
 use Rattle.wellformed.proofs.WellFormedLaws.{wf-depth}
 use Rattle.tables.specs.Tree.{isChild}
-use Rattle.topology.specs.Map.{Map, InMap, Is, Childless, ClusterAbove}
-use Rattle.topology.specs.Path.{topologyName, clusterPath}
+use Rattle.cpumap.specs.Map.{Map, InMap, Is, Childless, ClusterAbove}
+use Rattle.cpumap.specs.Path.{topologyName, clusterPath}
 use Rattle.topology.specs.Rules.{MapRule}
-use Rattle.topology.specs.Check.{kindNumber, topologyNumber, groupFault, depthFault, numberFault, shapeFault, mapRecordFault}
+use Rattle.cpumap.specs.Number.{kindNumber, topologyNumber}
+use Rattle.topology.specs.Check.{groupFault, depthFault, numberFault, shapeFault, mapRecordFault}
 use Rattle.topology.proofs.ChildMeans.{earlier-children, earlier-count, has-child-test}
-use Rattle.topology.proofs.NameFacts.{topology-cases, kinds-apart, number-answered}
+use Rattle.cpumap.proofs.NameFacts.{topology-cases, kinds-apart, number-answered}
 use Rattle.topology.proofs.RuleCases.{WrongNumber, DeepCluster, rule-means}
-use Rattle.topology.proofs.MapMeans.{in-map-below, map-not-below}
-use Rattle.topology.proofs.PathMeans.{clusterList, clusters-listing, depth-below}
+use Rattle.cpumap.proofs.MapMeans.{in-map-below, map-not-below}
+use Rattle.cpumap.proofs.PathMeans.{clusterList, clusters-listing, depth-below}
 use Rattle.topology.proofs.KindMeans.{parent-of, fault-named, kind-tested}
 
 -- rule 23 where a record that must have children has none

@@ -12,8 +12,8 @@ use Rattle.names.specs.Kind.{Kind, Named}
 use Rattle.tables.specs.Board.{Board, nodeCount, nodeName}
 use Rattle.wellformed.specs.Order.{stage}
 use Rattle.tables.specs.Tree.{Child}
-use Rattle.topology.specs.Words.{mapWord}
-use Rattle.topology.specs.Map.{Map, InMap, Outside, Is, Childless, Leaf, FirstChild, ClusterAbove}
+use Rattle.cpumap.specs.Words.{mapWord}
+use Rattle.cpumap.specs.Map.{Map, InMap, Outside, Is, Childless, Leaf, FirstChild, ClusterAbove}
 use Rattle.topology.specs.Rules.{MapRule, Allowed, maxClustersAbove}
 
 -- at which places the rules of a number stand

@@ -9,8 +9,9 @@ use Rattle.names.specs.declared.TopologyName.{TopologyName}
 use Rattle.names.specs.declared.TopologyName.the-variants.{Socket, Cluster, Core, Thread, Other}
 use Rattle.tables.specs.Board.{parentWord}
 use Rattle.tables.specs.Tree.{isBelow, isChild}
+use Rattle.cpumap.specs.Number.{kindNumber, topologyNumber}
 use Rattle.topology.specs.declared.RecordShape.{RecordShape}
-use Rattle.topology.specs.Path.{topologyName, clusterPath}
+use Rattle.cpumap.specs.Path.{topologyName, clusterPath}
 
 -- whether the record after i is its child; in a depth-first table, whether i has children
 unfoldable pub hasChild : List ℕ → ℕ → Bool
@@ -43,21 +44,6 @@ allowedInMap (Cluster n) = true
 allowedInMap (Core n) = false
 allowedInMap (Thread n) = false
 allowedInMap Other = false
-
--- a kind as a number, from 1; 0 for Other
-abbrev pub kindNumber : TopologyName → ℕ
-kindNumber (Socket n) = 1
-kindNumber (Cluster n) = 2
-kindNumber (Core n) = 3
-kindNumber (Thread n) = 4
-kindNumber Other = 0
-
-abbrev pub topologyNumber : TopologyName → ℕ
-topologyNumber (Socket n) = n
-topologyNumber (Cluster n) = n
-topologyNumber (Core n) = n
-topologyNumber (Thread n) = n
-topologyNumber Other = 0
 
 -- rule 20 of a name under parent p, whose first child is record p + 1
 unfoldable pub kindFault : List ℕ → List ℕ → ℕ → ℕ → TopologyName → ℕ

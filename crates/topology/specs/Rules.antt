@@ -9,8 +9,8 @@ use Rattle.names.specs.Kind.{Kind, Named}
 use Rattle.tables.specs.Board.{Board, nodeCount, nodeName}
 use Rattle.tables.specs.Tree.{Child}
 use Rattle.cpus.specs.Node.{Cpu}
-use Rattle.topology.specs.Words.{mapWord}
-use Rattle.topology.specs.Map.{Map, InMap, Outside, Is, Childless, Leaf, Names, FirstChild, ClusterAbove}
+use Rattle.cpumap.specs.Words.{mapWord}
+use Rattle.cpumap.specs.Map.{Map, InMap, Outside, Is, Childless, Leaf, Names, FirstChild, ClusterAbove}
 
 -- the most clusters above a cluster
 abbrev pub maxClustersAbove : ℕ

@@ -1,5 +1,6 @@
 // Kinds of the map's records and which may stand under which: rule 20.
-use crate::path::topology_name;
+use cpumap::kind_number;
+use cpumap::topology_name;
 use laws::BAD_KIND;
 use names::TopologyName;
 ghost use mathlib.Core.Path.{_≡_};
@@ -7,34 +8,8 @@ ghost use mathlib.Core.Bool.{cond};
 ghost use Prim.Native.Nat.{_<_};
 ghost use lib.Dec.{eqb};
 ghost use Rattle.tables.specs.Board.{nodeCount};
-ghost use Rattle.topology.specs.Path.{topologyName};
-ghost use Rattle.topology.specs.Check.{allowedUnder, allowedInMap, kindNumber, topologyNumber, kindFault};
-
-// A kind as a number, from 1; 0 for Other.
-pub fn kind_number(name: TopologyName) -> u32
-    ensures { λ r. ⌜ r ≡ kindNumber name ⌝ }
-{
-    match name {
-        TopologyName::Socket(_) => 1,
-        TopologyName::Cluster(_) => 2,
-        TopologyName::Core(_) => 3,
-        TopologyName::Thread(_) => 4,
-        TopologyName::Other => 0,
-    }
-}
-
-// The number in a topology name, 0 where it is none.
-pub fn topology_number(name: TopologyName) -> u32
-    ensures { λ r. ⌜ r ≡ topologyNumber name ⌝ }
-{
-    match name {
-        TopologyName::Socket(n) => n,
-        TopologyName::Cluster(n) => n,
-        TopologyName::Core(n) => n,
-        TopologyName::Thread(n) => n,
-        TopologyName::Other => 0,
-    }
-}
+ghost use Rattle.cpumap.specs.Path.{topologyName};
+ghost use Rattle.topology.specs.Check.{allowedUnder, allowedInMap, kindFault};
 
 // Whether a name may stand right under the map.
 fn allowed_in_map(name: TopologyName) -> bool

@@ -1,12 +1,12 @@
 // Rules 18 to 23 at one record, and whether it is a leaf.
 use crate::RecordShape;
 use crate::kind::kind_fault;
-use crate::kind::kind_number;
-use crate::path::topology_name;
 use crate::shape::group_fault;
 use crate::shape::has_child;
 use crate::shape::number_fault;
 use crate::shape::shape_fault;
+use cpumap::kind_number;
+use cpumap::topology_name;
 use laws::BAD_MAP_NAME;
 use laws::NAME_OUTSIDE_MAP;
 use names::TopologyName;
@@ -17,8 +17,9 @@ ghost use mathlib.Core.Bool.{cond};
 ghost use Prim.Native.Nat.{_<_};
 ghost use lib.Dec.{eqb};
 ghost use Rattle.tables.specs.Board.{nodeCount, parentWord};
-ghost use Rattle.topology.specs.Path.{topologyName};
-ghost use Rattle.topology.specs.Check.{kindNumber, isLeafName, mapRecordFault, mapRecordShape, recordShape};
+ghost use Rattle.cpumap.specs.Path.{topologyName};
+ghost use Rattle.cpumap.specs.Number.{kindNumber};
+ghost use Rattle.topology.specs.Check.{isLeafName, mapRecordFault, mapRecordShape, recordShape};
 
 // The smallest of 19 to 23 that record i, below the map and so named, breaks; or 0.
 fn map_record_fault(nodes: &[u32], pool: &[u8], map: usize, i: usize, name: TopologyName) -> u32

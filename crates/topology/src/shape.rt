@@ -1,6 +1,6 @@
 // Numbers of siblings, depth of clusters and groups without children: rules 21 to 23.
-use crate::kind::topology_number;
-use crate::positions::position_of;
+use cpumap::position_of;
+use cpumap::topology_number;
 use laws::BAD_MAP_NAME;
 use laws::BAD_NUMBER;
 use laws::NO_CHILDREN;

@@ -21,9 +21,9 @@ use Rattle.cpus.specs.Check.{rootNumber, rootFault, cellsOf, regCells, cpuCount
 use Rattle.cpus.specs.declared.RootCells.{RootCells}
 use Rattle.cpus.specs.declared.Wanted.the-variants.{Mpidrs, Phandles}
 use Rattle.cpus.proofs.CpuMeans.{cpu-count, count-fits}
-use Rattle.topology.specs.declared.MapScan.{MapScan}
+use Rattle.cpumap.specs.declared.MapScan.{MapScan}
 use Rattle.leaves.specs.declared.TreeScan.{TreeScan}
-use Rattle.topology.specs.Find.{mapOf}
+use Rattle.cpumap.specs.Find.{mapOf}
 use Rattle.leaves.specs.Scan.{Tree, lentTree, leavesFault, treeScan, leavesOver, namedOver, treeOf, leavesOf, namedOf}
 use Rattle.leaves.proofs.ScanLaws.{leaves-listed, named-listed}
 use Rattle.board.specs.Survey.{surveyFault}

@@ -1,6 +1,6 @@
 -- `row_of` fills a row from the leaf's name and its position. Assumes nothing.
 use mathlib.Core.Path.{ap}
-use Rattle.topology.specs.Path.{positionOf}
+use Rattle.cpumap.specs.Path.{positionOf}
 use Rattle.rows.specs.declared.Placed.{Placed}
 use Rattle.rows.specs.Row.{rowOf}
 use borrow.Author.Needs.{needs}

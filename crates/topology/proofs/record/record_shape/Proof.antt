@@ -6,7 +6,8 @@ use lib.Dec.{eqb}
 use borrow.Author.Tests.{eq-eqb, ne-eqb}
 use borrow.Author.Needs.{needs}
 use Rattle.names.specs.declared.TopologyName.{TopologyName}
-use Rattle.topology.specs.Check.{kindNumber, shape, recordShape}
+use Rattle.cpumap.specs.Number.{kindNumber}
+use Rattle.topology.specs.Check.{shape, recordShape}
 use Rattle.topology.proofs.CodeLaws.{below-later}
 use Rattle.topology.proofs.record.record_shape.Statement.{statement}
 use Rattle.topology.proofs.record.record_shape.Tie as tie

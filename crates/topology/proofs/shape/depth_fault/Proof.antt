@@ -2,10 +2,10 @@
 use mathlib.Core.Path.{ap}
 use native.Mathlib.Omega.{arith}
 use borrow.Author.Tests.{lt-ltb, le-ltb}
-use Rattle.topology.specs.declared.Position.{Position}
-use Rattle.topology.specs.Path.{clusterPath, positionOf}
+use Rattle.cpumap.specs.declared.Position.{Position}
+use Rattle.cpumap.specs.Path.{clusterPath, positionOf}
 use Rattle.topology.specs.Check.{depthFault}
-use Rattle.topology.proofs.CodeLaws.{path-short}
+use Rattle.cpumap.proofs.CodeLaws.{path-short}
 use borrow.Author.Needs.{needs}
 use Rattle.topology.proofs.shape.depth_fault.Statement.{statement}
 use Rattle.topology.proofs.shape.depth_fault.Tie as tie

@@ -1,0 +1,9 @@
+-- What the computed definitions mean, as facts about a board.
+pub mod NameFacts
+pub mod MapMeans
+pub mod MapNameLaws
+pub mod WithinMeans
+pub mod PathMeans
+pub mod PathWords
+pub mod SocketMeans
+pub mod CodeLaws

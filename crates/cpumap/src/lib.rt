@@ -1,0 +1,30 @@
+// The cpu map: its place, rules 15 and 16; what its records' names say; and where a record stands: its socket and clusters.
+mod find;
+mod number;
+mod path;
+mod positions;
+
+pub use find::find_map;
+pub use number::kind_number;
+pub use number::topology_number;
+pub use path::topology_name;
+pub use positions::position_of;
+
+// A cluster path: four numbers, outermost first, 0xFFFFFFFF where unused, and how many are used.
+pub struct ClusterPath {
+    pub numbers: [u32; 4],
+    pub depth: usize,
+}
+
+// What a record and its ancestors say: the number of their socket, 0xFFFFFFFF where there is none, and their clusters.
+pub struct Position {
+    pub socket: u32,
+    pub clusters: ClusterPath,
+}
+
+// The map's record, or the number and the place of the first of rules 15 and 16 that is broken.
+pub struct MapScan {
+    pub number: u32,
+    pub place: usize,
+    pub map: usize,
+}
