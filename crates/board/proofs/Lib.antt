@@ -7,3 +7,4 @@ pub mod FrontLaws
 pub mod ReadLaws
 pub mod SurveyLaws
 pub mod BoundLaws
+pub mod DemandsUnique
