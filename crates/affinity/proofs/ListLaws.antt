@@ -8,14 +8,15 @@ use lib.Dec.{eqb, ltb, lit≤}
 use lib.ListN.{length, getD}
 use borrow.Author.Tests.{ne-eqb, eqb-false, ltb-false, le-ltb}
 use Rattle.laws.specs.Fault.{clear, told}
+use Rattle.laws.specs.Search.{isAmong}
 use Rattle.laws.proofs.SearchLaws.{true-false}
 use Rattle.laws.proofs.FaultLaws.{first-is, clear-below, place-le}
-use Rattle.laws.proofs.OrElseLaws.{told-number, or-clear}
+use Rattle.laws.proofs.OrElseLaws.{or-clear}
 use Rattle.affinity.specs.declared.list.ListMask.{ListMask}
 use Rattle.affinity.specs.declared.mask.Gathered.{Gathered}
 use Rattle.affinity.specs.Level.{isAffine}
 use Rattle.affinity.specs.Mask.{maskOf, gathered}
-use Rattle.affinity.specs.List.{lengthFault, bitFault, AllAffine, firstOutside, listFault, maskAnswer}
+use Rattle.affinity.specs.List.{lengthFault, bitFault, AllAffine, firstOutside, listFault, maskAnswer, hashAnswer, slotAnswer}
 use Rattle.affinity.proofs.AffineLaws.{test-affine, affine-passes}
 use Rattle.affinity.proofs.MaskLaws.{some-affine, affine-some}
 
@@ -25,14 +26,6 @@ bit-affine x h = go (isAffine x) refl h
     go : (b : Bool) → isAffine x ≡ b → _≡_ {A = ℕ} (cond b 0 29) 0 → isAffine x ≡ true
     go true e z = e
     go false e z = absurd (omega arith)
-
-length-clear : (n : ℕ) → lengthFault n ≡ 0 → (1 ≤ n) × (n ≤ 256)
-length-clear n h = go (eqb n 0) refl (ltb 256 n) refl h
-  where
-    go : (b : Bool) → eqb n 0 ≡ b → (d : Bool) → ltb 256 n ≡ d → _≡_ {A = ℕ} (cond b 28 (cond d 28 0)) 0 → (1 ≤ n) × (n ≤ 256)
-    go true e d f z = absurd (omega arith)
-    go false e true f z = absurd (omega arith)
-    go false e false f z = omega (arith, eqb-false n 0 e, ltb-false 256 n f)
 
 module _ (list : List ℕ) where
   -- no number told: no bit outside
@@ -57,15 +50,13 @@ module _ (list : List ℕ) where
   unfolding listFault
   fault-within ne le = rw (ne-eqb (length list) 0 ne, le-ltb 256 (length list) le)
 
-  -- no fault: 1 to 256 MPIDRs with no bit outside
-  pub fault-sound : listFault list .number ≡ 0 → AllAffine list × (1 ≤ length list) × (length list ≤ 256)
+  -- no fault: no bit outside
+  pub fault-affine : listFault list .number ≡ 0 → AllAffine list
   unfolding listFault
-  fault-sound h =
-      let t = or-clear (told (lengthFault (length list)) 0) (firstOutside list) h in
-      let bounds = length-clear (length list) (sym (told-number (lengthFault (length list)) 0) ∙ t .0) in
-      (clear-affine (t .1), bounds .0, bounds .1)
+  fault-affine h = clear-affine (or-clear (told (lengthFault (length list)) 0) (firstOutside list) h .1)
 
-  pub fault-place-le : listFault list .place ≤ 256
+  -- no place is above 256
+  fault-place-le : listFault list .place ≤ 256
   unfolding listFault firstOutside
   fault-place-le = go (eqb (length list) 0) refl (ltb 256 (length list)) refl
     where
@@ -73,6 +64,23 @@ module _ (list : List ℕ) where
       go true e d f = rw e (lit≤ tt)
       go false e true f = rw (e, f) (lit≤ tt)
       go false e false f = rw (e, f) (omega (arith, place-le (λ k. bitFault (getD list k 0)) (length list), ltb-false 256 (length list) f))
+
+  pub hash-place-le : hashAnswer list .place ≤ 256
+  unfolding hashAnswer
+  hash-place-le = go (eqb (listFault list .number) 0) refl
+    where
+      go : (b : Bool) → eqb (listFault list .number) 0 ≡ b → hashAnswer list .place ≤ 256
+      go true e = rw e (lit≤ tt)
+      go false e = rw e fault-place-le
+
+  pub slot-place-le : (mpidr : ℕ) → slotAnswer mpidr list .place ≤ 256
+  unfolding slotAnswer
+  slot-place-le mpidr = go (eqb (listFault list .number) 0) refl (isAmong list mpidr) refl
+    where
+      go : (b : Bool) → eqb (listFault list .number) 0 ≡ b → (d : Bool) → isAmong list mpidr ≡ d → slotAnswer mpidr list .place ≤ 256
+      go true e true f = rw (e, f) (lit≤ tt)
+      go true e false f = rw (e, f) (lit≤ tt)
+      go false e d f = rw e fault-place-le
 
   -- the answer to "the mask of a list", told by its number
   abbrev accepted : ListMask

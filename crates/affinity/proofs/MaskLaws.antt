@@ -16,10 +16,11 @@ use Rattle.laws.specs.Digit.{digit}
 use Rattle.laws.specs.Search.{anyBelow}
 use Rattle.laws.proofs.SearchLaws.{true-false, below-suc, any-at, any-place}
 use Rattle.laws.proofs.DigitLaws.{digit-lt, digit-and, digit-or}
-use Rattle.laws.proofs.FromDigitLaws.{no-digit, from-digit, from-high, from-is, digit-not}
+use Rattle.laws.proofs.FromDigitLaws.{no-digit, from-lt, from-digit, from-is, digit-not}
 use Rattle.affinity.specs.Level.{Affine}
 use Rattle.affinity.specs.List.{AllAffine}
 use Rattle.affinity.specs.Mask.{Differ, differing, maskOf, someBelow}
+use Rattle.affinity.specs.HashFacts.{IsMask}
 
 -- the and of the first n of a list, in 64 bits
 unfoldable pub allBelow : List ℕ → ℕ → ℕ
@@ -83,13 +84,13 @@ module _ (list : List ℕ) where
   abbrev someApart : ℕ → ℕ → Bool
   someApart k i = anyBelow (apart k i) (length list)
 
-  pub differ-one : (k : ℕ) → Differ list k → differing list k ≡ 1
+  differ-one : (k : ℕ) → Differ list k → differing list k ≡ 1
   unfolding differing
   differ-one k d =
       let other = any-at (apart k (d .one)) (d .other) (length list) (d .other-in) (rw (ne-eqb _ _ (d .differs))) in
       rw (any-at (someApart k) (d .one) (length list) (d .one-in) other)
 
-  pub one-differ : (k : ℕ) → differing list k ≡ 1 → Differ list k
+  one-differ : (k : ℕ) → differing list k ≡ 1 → Differ list k
   unfolding differing
   one-differ k h = go (anyBelow (someApart k) (length list)) refl h
     where
@@ -122,13 +123,18 @@ module _ (list : List ℕ) where
       go (suc (suc d)) e lt = absurd (omega arith)
 
   -- the digits of the mask
-  pub mask-digit : (k : ℕ) → k < 64 → digit (maskOf list) k ≡ differing list k
+  mask-digit : (k : ℕ) → k < 64 → digit (maskOf list) k ≡ differing list k
   unfolding maskOf
   mask-digit k = from-digit (differing list) differing-lt 64 k
 
-  pub mask-high : (k : ℕ) → 64 ≤ k → digit (maskOf list) k ≡ 0
+  -- the mask, as a fact
+  pub mask-holds : IsMask list (maskOf list)
   unfolding maskOf
-  mask-high k = from-high (differing list) differing-lt 64 k
+  mask-holds =
+      record {
+        size = from-lt (differing list) differing-lt 64;
+        ones = λ k lt. (λ e. one-differ k (sym (mask-digit k lt) ∙ e), λ d. mask-digit k lt ∙ differ-one k d);
+      }
 
   -- the or and the and of the whole list
   abbrev some : ℕ

@@ -10,6 +10,7 @@ use lib.Bits.{bitAnd}
 use lib.Dec.{lit<}
 use lib.Pow.{pow-mono}
 use Rattle.laws.specs.Digit.{digit}
+use Rattle.laws.specs.Sum.{sumBelow}
 use Rattle.laws.proofs.SearchLaws.{lt-or-le}
 use Rattle.laws.proofs.FirstLaws.{compared}
 use Rattle.laws.proofs.DigitLaws.{digit-lt, digit-and, digit-or, digit-ext}
@@ -63,13 +64,13 @@ module _ (m a l : ℕ) (l<4 : l < 4) where
 
   -- and nowhere else
   level-out : (k : ℕ) → (k < bitsBelow m l) ⊎ (bitsBelow m (suc l) ≤ k) → digit (levelSlot m a l (shiftOf m l)) k ≡ 0
-  unfolding levelSlot shiftOf bitsBelow
+  unfolding levelSlot shiftOf sumBelow
   level-out k out =
       digit-shr kept shift k
       ∙ kept-out (shift + k) (⊎-elim (λ h. inl (omega (arith, shift-exact m l l<4))) (λ h. inr (omega (arith, shift-exact m l l<4))) out)
 
 bits-mono : (m i j : ℕ) → i ≤ j → bitsBelow m i ≤ bitsBelow m j
-unfolding bitsBelow
+unfolding sumBelow
 bits-mono m i j le = le-ind (λ (k : ℕ). bitsBelow m i ≤ bitsBelow m k) (omega arith) (λ k _ h. omega arith) j le
 
 -- the greatest of four, of which all are 0 but one
@@ -99,7 +100,7 @@ module _ (m a : ℕ) where
 
   pub slot-digit :
       (l : ℕ) → l < 4 → (j : ℕ) → j < widthOf (levelPart m l) → digit (slotOf (hashOfMask m) a) (bitsBelow m l + j) ≡ digit (bitAnd a m) (beginOf l + lowOf (levelPart m l) + j)
-  unfolding bitsBelow
+  unfolding sumBelow
   slot-digit l h j lt = slot-max (bitsBelow m l + j) ∙ max-one (levelDigit (bitsBelow m l + j)) l h other ∙ level-in m a l h j lt
     where
       other : (i : ℕ) → i < 4 → (i ≡ l → ⊥) → levelDigit (bitsBelow m l + j) i ≡ 0

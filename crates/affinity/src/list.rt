@@ -13,6 +13,7 @@ use laws::OUTSIDE_BITS;
 use laws::is_among;
 ghost use mathlib.Core.Path.{_≡_};
 ghost use Rattle.affinity.specs.List.{firstOutside, maskAnswer, hashAnswer, slotAnswer};
+ghost use Rattle.affinity.specs.ListFacts.{HashDemands, SlotDemands};
 
 const MOST_LISTED: usize = 256;
 
@@ -25,7 +26,8 @@ struct ListMask {
 
 // The hash of a list.
 pub fn list_hash(list: &[u64]) -> ListHash
-    ensures { λ r. ⌜ r ≡ hashAnswer (now (list .entry)) ⌝ }
+    ensures answer { λ r. ⌜ r ≡ hashAnswer (now (list .entry)) ⌝ }
+    ensures demands { λ r. ⌜ HashDemands (now (list .entry)) r ⌝ }
 {
     let answer = list_mask(list);
     if answer.number != 0 {
@@ -50,7 +52,8 @@ pub fn list_hash(list: &[u64]) -> ListHash
 
 // The slot of one MPIDR in a list, for one that is listed.
 pub fn list_slot(mpidr: u64, list: &[u64]) -> ListSlot
-    ensures { λ r. ⌜ r ≡ slotAnswer mpidr (now (list .entry)) ⌝ }
+    ensures answer { λ r. ⌜ r ≡ slotAnswer mpidr (now (list .entry)) ⌝ }
+    ensures demands { λ r. ⌜ SlotDemands (now (list .entry)) mpidr r ⌝ }
 {
     let answer = list_mask(list);
     if answer.number != 0 {

@@ -1,6 +1,7 @@
 // The mask of a list of MPIDRs.
 ghost use mathlib.Core.Path.{_≡_};
 ghost use Rattle.affinity.specs.Mask.{gathered, maskOf};
+ghost use Rattle.affinity.specs.HashFacts.{IsMask};
 
 // What one pass over a list gives: the or of all of it, and its mask.
 pub struct Gathered {
@@ -10,7 +11,8 @@ pub struct Gathered {
 
 // Each bit in which some two of the list differ. 0 for an empty list.
 pub fn mask_of(list: &[u64]) -> u64
-    ensures { λ r. ⌜ r ≡ maskOf (now (list .entry)) ⌝ }
+    ensures answer { λ r. ⌜ r ≡ maskOf (now (list .entry)) ⌝ }
+    ensures mask { λ r. ⌜ IsMask (now (list .entry)) r ⌝ }
 {
     let bits = gather(list);
     bits.mask

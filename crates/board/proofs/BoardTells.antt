@@ -3,7 +3,7 @@ use mathlib.Core.Path.{_≡_, refl, sym, ap, _∙_, subst}
 use mathlib.Core.Bool.{Bool, true, false, cond}
 use mathlib.Core.Logic.{inl, inr}
 use mathlib.Core.List.{List}
-use Prim.Native.Nat.{ℕ, zero, suc, _*_}
+use Prim.Native.Nat.{ℕ, _*_}
 use native.Mathlib.Omega.{arith}
 use lib.Dec.{ltb}
 use lib.ListN.{length}
@@ -12,7 +12,7 @@ use Rattle.laws.specs.Fault.{clear, told, orElse}
 use Rattle.laws.specs.Listing.{Listing}
 use Rattle.laws.proofs.ListingLaws.{listing-unique}
 use Rattle.laws.proofs.FirstLaws.{Tells, end-tells}
-use Rattle.laws.proofs.RuleStageLaws.{Clears, Once, once-tells, else-clear}
+use Rattle.laws.proofs.RuleStageLaws.{Once, once-tells, else-clear, told-clears}
 use Rattle.layout.specs.Row.{rowSize}
 use Rattle.tables.specs.Board.{Board, Typed}
 use Rattle.wellformed.specs.Order.{stage}
@@ -60,12 +60,8 @@ module _ {b : Board} (typed : Typed b) (room : ℕ) where
 
     room-tells : Tells stage R 15 (told (roomFault room (cpuCount b)) 0)
     room-tells =
-        subst (Tells stage R 15) (else-clear (told (roomFault room (cpuCount b)) 0) (told-clears (roomFault room (cpuCount b))))
+        subst (Tells stage R 15) (else-clear (told (roomFault room (cpuCount b)) 0) (told-clears (roomFault room (cpuCount b)) 0))
         (once-tells stage R 15 (roomFault room (cpuCount b)) clear room-once (λ _. end-tells stage R 16 (λ m q r. omega (arith, stage-range room m q r .1))))
-      where
-        told-clears : (v : ℕ) → Clears (told v 0)
-        told-clears zero z = refl
-        told-clears (suc v) z = absurd (omega arith)
 
   pub board-tells : Tells stage R 1 (boardFault b room)
   board-tells =

@@ -24,7 +24,7 @@ use Rattle.cpumap.specs.Find.{mapOf}
 use Rattle.cpumap.proofs.MapMeans.{map-of, no-map}
 use Rattle.rows.specs.Fits.{Fits}
 use Rattle.rows.specs.Write.{rowsBelow, written, sourceOf}
-use Rattle.rows.proofs.SourceMeans.{leafCount, LeafFacts, leaf-facts, leaf-count, mpidrs-of}
+use Rattle.rows.proofs.SourceMeans.{leafCount, LeafFacts, leaf-facts, leaf-count, mpidrs-of, hash-of}
 use Rattle.rows.proofs.FitMeans.{rows-fit}
 use Rattle.rows.proofs.FitUnique.{fits-unique}
 use Rattle.rows.proofs.SlotMeans.{slots-distinct-rows, slots-bounded}
@@ -94,7 +94,7 @@ module _
           rest = rest;
           size = written-length (sourceOf b) before has-room;
           count = (cpuList b, cpu-listing well, cpu-count b);
-          hash = (mpidrList b, mpidrs-of typed well sound, refl);
+          hash = (mpidrList b, mpidrs-of typed well sound, hash-of typed well sound);
           distinct = distinct;
           bounded = λ k lt. rw (slot-at k lt) (slots-bounded typed well sound leaves k (rw same lt));
         }

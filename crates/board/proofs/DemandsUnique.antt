@@ -10,7 +10,7 @@ use Rattle.laws.proofs.FirstLaws.{first-unique}
 use Rattle.laws.proofs.ListingLaws.{listing-unique}
 use Rattle.layout.specs.Row.{rowSize}
 use Rattle.affinity.specs.declared.Hash.{Hash}
-use Rattle.affinity.specs.Hash.{hashOf}
+use Rattle.affinity.proofs.HashMeans.{hash-unique}
 use Rattle.tables.specs.Board.{Board}
 use Rattle.wellformed.specs.Order.{stage}
 use Rattle.wellformed.specs.Rules.{WellFormed}
@@ -42,7 +42,7 @@ module _ (b : Board) (before : List ℕ) (x y : BoardAnswer) (after other : List
   both-accept : WellFormed b → x .number ≡ 0 → y .number ≡ 0 → Accepted b before x after → Accepted b before y other → Same
   both-accept well zx zy h g =
       let count : x .count ≡ y .count = h .count .2 ∙ ap length (listing-unique (h .count .0) (g .count .0) (h .count .1) (g .count .1)) ∙ sym (g .count .2) in
-      let hash : x .hash ≡ y .hash = h .hash .2 ∙ ap hashOf (mpidrs-unique well (h .hash .1) (g .hash .1)) ∙ sym (g .hash .2) in
+      let hash : x .hash ≡ y .hash = hash-unique (rw (mpidrs-unique well (h .hash .1) (g .hash .1)) at (h .hash .2)) (g .hash .2) in
       let rows : take (rowSize * x .count) after ≡ take (rowSize * y .count) other = g .only (take (rowSize * x .count) after) (h .fits) in
       let rest : drop (rowSize * x .count) after ≡ drop (rowSize * y .count) other =
       h .rest ∙ ap (λ (n : ℕ). drop (rowSize * n) before) count ∙ sym (g .rest) in (

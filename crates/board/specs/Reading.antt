@@ -6,8 +6,8 @@ use Prim.Native.Nat.{ℕ, _*_, _^_, _<_}
 use lib.ListN.{length, take, drop}
 use Rattle.laws.specs.Listing.{Listing}
 use Rattle.layout.specs.Row.{rowSize, rowSlot, rowAt}
-use Rattle.affinity.specs.Hash.{hashOf}
 use Rattle.affinity.specs.List.{noHash}
+use Rattle.affinity.specs.HashFacts.{IsHash}
 use Rattle.tables.specs.Board.{Board}
 use Rattle.wellformed.specs.Rules.{WellFormed}
 use Rattle.cpus.specs.Node.{Cpu}
@@ -39,7 +39,7 @@ pub record Accepted (b : Board) (before : List ℕ) (answer : BoardAnswer) (afte
   pub rest : drop (rowSize * answer .count) after ≡ drop (rowSize * answer .count) before
   pub size : length after ≡ length before
   pub count : (cpus : List ℕ) × Listing (Cpu b) cpus × (answer .count ≡ length cpus)
-  pub hash : (list : List ℕ) × Mpidrs b list × (answer .hash ≡ hashOf list)
+  pub hash : (list : List ℕ) × Mpidrs b list × IsHash list (answer .hash)
   pub distinct : (j k : ℕ) → j < answer .count → k < answer .count → slotAt after j ≡ slotAt after k → j ≡ k
   pub bounded : (k : ℕ) → k < answer .count → slotAt after k < 2 ^ (answer .hash .bits)
 

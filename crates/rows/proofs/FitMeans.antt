@@ -4,7 +4,7 @@ use Prim.Native.Nat.{ℕ, _/_, _%_, _^_, _<_}
 use native.Mathlib.Omega.{arith}
 use Rattle.layout.specs.Row.{rowWords, rowAt}
 use Rattle.layout.proofs.RowLaws.{row-path}
-use Rattle.affinity.specs.Hash.{slotIn}
+use Rattle.affinity.specs.Hash.{hashOf, slotIn}
 use Rattle.tables.specs.Board.{Board, Typed, nodeCount}
 use Rattle.wellformed.specs.Rules.{WellFormed}
 use Rattle.wellformed.proofs.WellFormedLaws.{wf-nodes}
@@ -23,7 +23,7 @@ use Rattle.rows.specs.Write.{rowsBelow, sourceOf}
 use Rattle.rows.specs.Fits.{RowFits, Fits}
 use Rattle.rows.proofs.WordMeans.{socket-word, cluster-word, core-word, thread-word}
 use Rattle.rows.proofs.RowLaws.{rows-length, row-at}
-use Rattle.rows.proofs.SourceMeans.{leafCount, leafAt, cpuIn, leafRow, LeafFacts, mpidrs-of, row-number}
+use Rattle.rows.proofs.SourceMeans.{leafCount, leafAt, cpuIn, leafRow, LeafFacts, mpidrs-of, hash-of, row-number}
 
 module _
     {b : Board}
@@ -51,7 +51,14 @@ module _
           cluster = λ d lt. rw (row-path (leafRow b leaf cpu) d lt) (cluster-word well sound l d lt);
           core = core-word well sound the-map kept l;
           thread = thread-word well sound l;
-          slot = record { list = mpidrList b; mpidrs = mpidrs-of typed well sound; slot = ap (slotIn (mpidrList b)) whole };
+          slot =
+              record {
+                list = mpidrList b;
+                mpidrs = mpidrs-of typed well sound;
+                hash = hashOf (mpidrList b);
+                is-hash = hash-of typed well sound;
+                slot = ap (slotIn (mpidrList b)) whole;
+              };
         }
       where
         cpu-word : cpu % 2 ^ 32 ≡ cpu

@@ -9,7 +9,9 @@ use Rattle.laws.proofs.ListingLaws.{listing-unique}
 use Rattle.laws.proofs.BlockLaws.{blocks-same}
 use Rattle.layout.specs.Row.{rowSize, rowCpu, rowUpper, rowLower, rowCluster, rowAt}
 use Rattle.layout.proofs.RowLaws.{row-same}
-use Rattle.affinity.specs.Hash.{slotIn}
+use Rattle.affinity.specs.declared.Hash.{Hash}
+use Rattle.affinity.specs.Hash.{slotOf}
+use Rattle.affinity.proofs.HashMeans.{hash-unique}
 use Rattle.names.specs.Kind.{Kind, Named}
 use Rattle.names.proofs.NameMeans.{named-unique}
 use Rattle.tables.specs.Board.{Board, Typed, nodeName}
@@ -58,7 +60,9 @@ module _ {b : Board} (well : WellFormed b) where
           p .3 ∙ rw (e .0, e .1) (sym (q .3))
 
   pub slot-word-unique : {m x y : ℕ} → SlotWord b m x → SlotWord b m y → x ≡ y
-  slot-word-unique {m} h g = h .slot ∙ ap (λ (l : List ℕ). slotIn l m) (mpidrs-unique (h .mpidrs) (g .mpidrs)) ∙ sym (g .slot)
+  slot-word-unique {m} h g =
+      let same = mpidrs-unique (h .mpidrs) (g .mpidrs) in
+      h .slot ∙ ap (λ (x : Hash). slotOf x m) (hash-unique (rw same at (h .is-hash)) (g .is-hash)) ∙ sym (g .slot)
 
 module _
     {b : Board}

@@ -7,13 +7,17 @@ use Rattle.laws.specs.Listing.{Listing}
 use Rattle.laws.proofs.IndexLaws.{getD-map-lt}
 use Rattle.layout.specs.declared.Row.{Row}
 use Rattle.affinity.specs.Mask.{maskOf}
-use Rattle.affinity.specs.Hash.{slotIn}
-use Rattle.affinity.proofs.SlotClaims.{slot-guarded}
+use Rattle.affinity.specs.Hash.{hashOf, slotIn}
+use Rattle.affinity.specs.List.{AllAffine}
+use Rattle.affinity.specs.HashFacts.{IsHash}
+use Rattle.affinity.proofs.SlotLaws.{slot-guarded}
+use Rattle.affinity.proofs.HashMeans.{hash-is}
 use Rattle.tables.specs.Board.{Board, Typed}
 use Rattle.wellformed.specs.Rules.{WellFormed}
 use Rattle.cpus.specs.Rules.{CpuRule, SoundCpus}
 use Rattle.cpus.specs.Check.{cpuCount, cpuList, mpidrAt, mpidrList}
 use Rattle.cpus.proofs.CpuMeans.{cpu-listing, cpu-count}
+use Rattle.cpus.proofs.RegMeans.{reg-affine}
 use Rattle.cpus.proofs.CpuGives.{cpu-reg}
 use Rattle.cpumap.specs.Map.{Map, Leaf, Names}
 use Rattle.cpumap.specs.Find.{mapOf}
@@ -90,6 +94,16 @@ module _ {b : Board} (typed : Typed b) (well : WellFormed b) (sound : SoundCpus 
         each = λ k lt.
             let t = cpu-reg typed well sound (cpu-listing well .only k lt) in (t .0, t .1, t .2, getD-map-lt (mpidrAt b) (cpuList b) k lt ∙ t .3);
       }
+
+  -- they have affinity bits alone, so their hash is the computed one
+  pub hash-of : IsHash (mpidrList b) (hashOf (mpidrList b))
+  hash-of = hash-is (mpidrList b) affine
+    where
+      affine : AllAffine (mpidrList b)
+      affine i lt =
+          let in-cpus = rw (length-map (cpuList b) (mpidrAt b)) at lt in
+          let t = cpu-reg typed well sound (cpu-listing well .only i in-cpus) in
+          rw (getD-map-lt (mpidrAt b) (cpuList b) i in-cpus, t .3) (reg-affine (t .2))
 
   -- row k is that of leaf k and of the cpu record that it names
   pub row-number : LeafFacts b → (k : ℕ) → k < leafCount b → rowNumber (sourceOf b) k ≡ leafRow b (leafAt b k) (cpuIn b (leafAt b k))

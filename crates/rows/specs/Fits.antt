@@ -5,7 +5,9 @@ use Prim.Native.Nat.{ℕ, _*_, _<_}
 use lib.ListN.{length, getD}
 use Rattle.laws.specs.Listing.{Listing}
 use Rattle.layout.specs.Row.{rowSize, gap, rowLeaf, rowCpu, rowUpper, rowLower, rowSocket, rowCluster, rowCore, rowThread, rowSlot, rowAt}
-use Rattle.affinity.specs.Hash.{slotIn}
+use Rattle.affinity.specs.declared.Hash.{Hash}
+use Rattle.affinity.specs.Hash.{slotOf}
+use Rattle.affinity.specs.HashFacts.{IsHash}
 use Rattle.names.specs.Kind.{Kind, Named}
 use Rattle.tables.specs.Board.{Board, nodeName}
 use Rattle.tables.specs.Tree.{Child, Ancestor}
@@ -47,11 +49,13 @@ pub data ThreadWord (b : Board) (leaf : ℕ) : ℕ → Type 0 where
   itself : (n : ℕ) → Named (nodeName b leaf) Kind.thread n → ThreadWord b leaf n
   notThread : (Is b Kind.thread leaf → ⊥) → ThreadWord b leaf gap
 
--- the slot of an MPIDR in the list of all cpu records' MPIDRs
+-- the slot of an MPIDR under the hash of all cpu records' MPIDRs
 pub record SlotWord (b : Board) (m word : ℕ) : Type 0 where
   pub list : List ℕ
   pub mpidrs : Mpidrs b list
-  pub slot : word ≡ slotIn list m
+  pub hash : Hash
+  pub is-hash : IsHash list hash
+  pub slot : word ≡ slotOf hash m
 
 -- the words of one row
 pub record RowFits (b : Board) (leaf : ℕ) (row : List ℕ) : Type 0 where

@@ -5,9 +5,10 @@ use Prim.Native.Nat.{ℕ}
 use lib.Count.{leadingZeros, trailingZeros}
 use Rattle.laws.specs.Digit.{digit, fromDigits}
 use Rattle.laws.specs.Search.{anyBelow}
+use Rattle.laws.specs.Sum.{sumBelow}
 use Rattle.affinity.specs.Level.{levelPart, lowOf, topOf, widthOf}
 use Rattle.affinity.specs.Mask.{differing, maskOf}
-use Rattle.affinity.specs.Hash.{bitsBelow, shiftOf, shiftsOf, hashOfMask, hashOf, levelSlot, slotOf, slotIn}
+use Rattle.affinity.specs.Hash.{shiftOf, shiftsOf, hashOfMask, hashOf, levelSlot, slotOf, slotIn}
 use Rattle.names.specs.declared.TopologyName.{TopologyName}
 use Rattle.names.specs.declared.TopologyName.the-variants.{Socket, Cluster, Core, Other}
 use Rattle.names.specs.Kind.{Kind, word}
@@ -51,5 +52,5 @@ defined (Case.name bytes is) = Case.name bytes (nameOf bytes)
 
 pub worked-hold : map defined worked ≡ worked
 unfolding worked digit fromDigits anyBelow differing maskOf leadingZeros trailingZeros lowOf topOf widthOf levelPart
-    bitsBelow shiftOf shiftsOf hashOfMask levelSlot slotOf startsWith digitsFrom numberOf nameOf
+    sumBelow shiftOf shiftsOf hashOfMask levelSlot slotOf startsWith digitsFrom numberOf nameOf
 worked-hold = refl

@@ -148,7 +148,7 @@ returns-3 c =
     let cpus = front-is _ _ (lists e .cpus-laid) (cpu-size e) (few e) in
     let leaves = front-is _ _ (lists e .leaves-laid) (leaf-size e) (few-leaves e) in
     let named = front-is _ _ (lists e .named-laid) (named-size e) (few-named e) in
-    let hash = hashed .hash-of-mask .ensures ∙ ap hashOfMask (hashed .before .mask-of .ensures ∙ ap maskOf mpidrs) in
+    let hash = hashed .hash-of-mask .ensures ∙ ap hashOfMask (hashed .before .mask-of .ensures .0 ∙ ap maskOf mpidrs) in
     accepts (typed (call e)) (rows (call e)) (is e) (e .if1 .left) (omega (arith, hashed .before .before .before .if2 .left, cpus-are e))
     (cpus-are e) hash
     (wrote .write-rows .ensures ∙ rw (mpidrs, cpus, leaves, named, hash))

@@ -2,7 +2,7 @@
 use native.Mathlib.Omega.{arith}
 use lib.ListN.{length}
 use borrow.Author.Tests.{lt-ltb}
-use Rattle.affinity.proofs.SlotClaims.{slot-place-le}
+use Rattle.affinity.proofs.ListLaws.{slot-place-le}
 use Rattle.exports.proofs.CallLaws.{word-holds}
 use borrow.Author.Needs.{needs}
 use Rattle.exports.proofs.list.sunderwath_list_slot.Statement.{statement}
@@ -15,7 +15,7 @@ list-slot-requires : tie.Need-list-slot-requires
 list-slot-requires c κs = search needs
 
 cast-put-answer : tie.Need-cast-put-answer
-cast-put-answer c = rw (c .before .before .list-slot .ensures) (word-holds (slot-place-le _ _) (omega arith))
+cast-put-answer c = rw (c .before .before .list-slot .ensures .0) (word-holds (slot-place-le _ _) (omega arith))
 
 put-answer-requires : tie.Need-put-answer-requires
 put-answer-requires c κs = search needs
@@ -24,7 +24,7 @@ same-length : tie.Need-same-length
 same-length c = search needs
 
 returns-2 : tie.Need-returns-2
-returns-2 c = rw (← c .before .before .before .before .before .list-slot .ensures) (c .before .before .put-answer .ensures)
+returns-2 c = rw (← c .before .before .before .before .before .list-slot .ensures .0) (c .before .before .put-answer .ensures)
 
 pub sunderwath-list-slot-spec : {M : Type 1} → statement M
 sunderwath-list-slot-spec =

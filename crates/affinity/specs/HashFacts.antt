@@ -1,0 +1,34 @@
+-- The mask and the hash of a list of MPIDRs, as facts (01, "The slot").
+use mathlib.Core.Path.{_≡_}
+use mathlib.Core.Logic.{_↔_}
+use mathlib.Core.List.{List}
+use Prim.Native.Nat.{ℕ, _+_, _^_, _<_}
+use lib.ListN.{length, getD}
+use Rattle.laws.specs.Digit.{digit}
+use Rattle.laws.specs.Listing.{Member}
+use Rattle.laws.specs.Sum.{sumBelow}
+use Rattle.affinity.specs.declared.Hash.{Hash}
+use Rattle.affinity.specs.Level.{beginOf, levelPart}
+use Rattle.affinity.specs.Mask.{Differ}
+use Rattle.affinity.specs.Hash.{slotOf}
+use Rattle.affinity.specs.LevelFacts.{Low, Width}
+
+-- the mask: each bit in which some two listed MPIDRs differ
+pub record IsMask (list : List ℕ) (mask : ℕ) : Type 0 where
+  pub size : mask < 2 ^ 64
+  pub ones : (k : ℕ) → k < 64 → (digit mask k ≡ 1) ↔ Differ list k
+
+-- the hash of a list of MPIDRs, with the low and the width of each level
+pub record IsHash (list : List ℕ) (h : Hash) : Type 0 where
+  pub mask : IsMask list (h .mask)
+  pub low : ℕ → ℕ
+  pub width : ℕ → ℕ
+  pub lows : (level : ℕ) → level < 4 → Low (levelPart (h .mask) level) (low level)
+  pub widths : (level : ℕ) → level < 4 → Width (levelPart (h .mask) level) (width level)
+  pub four : length (h .shifts) ≡ 4
+  -- a level's shift is its beginning, plus low, minus the widths of all lower levels
+  pub shifts : (level : ℕ) → level < 4 → getD (h .shifts) level 0 + sumBelow width level ≡ beginOf level + low level
+  pub bits : h .bits ≡ sumBelow width 4
+  -- different MPIDRs of the list have different slots, each below 2 to the bits
+  pub distinct : (x y : ℕ) → Member list x → Member list y → slotOf h x ≡ slotOf h y → x ≡ y
+  pub bounded : (x : ℕ) → Member list x → slotOf h x < 2 ^ (h .bits)

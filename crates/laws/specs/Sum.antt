@@ -1,0 +1,7 @@
+-- Sums.
+use Prim.Native.Nat.{ℕ, zero, suc, _+_}
+
+-- the sum of the first n values
+unfoldable pub sumBelow : (ℕ → ℕ) → ℕ → ℕ
+sumBelow f zero = 0
+sumBelow f (suc n) = sumBelow f n + f n
