@@ -29,8 +29,8 @@ use Rattle.affinity.proofs.HashMeans.{hash-unique, hash-is}
 
 -- a rule told of place 0 alone
 once : {R : ℕ → ℕ → Type 0} {n v : ℕ} → Tested n (R n 0) v → 0 < n → ((m q : ℕ) → R m q → m ≡ n → q ≡ 0) → Once listStage R n v
-once {n} (Tested.broken r) pos at = record { sound = λ _. (r, refl); only = λ m q x e. (λ z. omega arith, e, at m q x e) }
-once {n} (Tested.sound s) pos at = record { sound = λ ne. absurd (ne refl); only = λ m q x e. absurd (s (rw (e, at m q x e) at x)) }
+once (Tested.broken r) pos at = record { sound = λ _. (r, refl); only = λ m q x e. (λ z. omega arith, e, at m q x e) }
+once (Tested.sound s) pos at = record { sound = λ ne. absurd (ne refl); only = λ m q x e. absurd (s (rw (e, at m q x e) at x)) }
 
 module _ (list : List ℕ) where
   -- what a broken rule of a list says
