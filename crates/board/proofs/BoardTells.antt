@@ -73,9 +73,9 @@ module _ {b : Board} (typed : Typed b) (room : ℕ) where
       (table-tells b R (λ n p r. Breaks.tables r) (λ n p r le. table-back room n p r le) _ λ well.
       cpus-tells typed well R (λ n p r. Breaks.cpus r) (λ n p r lo hi. cpu-back room n p r lo (inl hi)) _ λ sound.
       map-tells b well R (λ n p r. Breaks.topology r) (λ n p r lo hi. map-back room n p r lo (omega arith) (λ e. omega arith)) _ λ m is-map _.
-      phandles-tells typed well R (λ n p r. Breaks.cpus r) (λ n p r e. cpu-back room n p r (omega arith) (inr e)) sound _ λ no17.
+      phandles-tells typed well R (λ n p r. Breaks.cpus r) (λ n p r e. cpu-back room n p r (omega arith) (inr e)) sound _ λ handles.
       subst
       (λ (root : ℕ). Tells stage R 13 (orElse (leavesFault (treeAt b root) (cpuList b)) (told (roomFault room (cpuCount b)) 0)))
       (map-is b well m is-map)
-      (tree-tells typed well sound no17 is-map R (λ n p r. Breaks.topology r) (λ n p r lo hi. map-back room n p r (omega arith) (omega arith) (λ e. omega arith)) _ λ _.
+      (tree-tells typed well sound handles is-map R (λ n p r. Breaks.topology r) (λ n p r lo hi. map-back room n p r (omega arith) (omega arith) (λ e. omega arith)) _ λ _.
       room-tells well))

@@ -49,8 +49,8 @@ module _
     sound : SoundCpus b
     sound n p r _ = none n p (Breaks.cpus r)
 
-    no17 : (p : ℕ) → CpuRule b 17 p → ⊥
-    no17 p r = none 17 p (Breaks.cpus r)
+    handles : (p : ℕ) → CpuRule b 17 p → ⊥
+    handles p r = none 17 p (Breaks.cpus r)
 
     kept : (n p : ℕ) → MapRule b n p → ⊥
     kept n p r = none n p (Breaks.topology r)
@@ -62,10 +62,10 @@ module _
     room = ⊎-elim (λ lt. absurd (none 27 0 (Breaks.noRoom (cpuList b) (cpu-listing well) (rw (cpu-count b) at lt)))) (λ le. le) (lt-or-le (length before) (rowSize * cpuCount b))
 
     leaves : LeafFacts b
-    leaves = leaf-facts typed well sound no17 (the-map .1) kept
+    leaves = leaf-facts typed well sound handles (the-map .1) kept
 
     same : leafCount b ≡ cpuCount b
-    same = leaf-count typed well sound no17 (the-map .1) kept
+    same = leaf-count typed well sound handles (the-map .1) kept
 
     has-room : rowSize * leafCount b ≤ length before
     has-room = omega (arith, same, room)
@@ -90,7 +90,7 @@ module _
         record {
           place = refl;
           fits = fits;
-          only = λ rows h. fits-unique typed well sound no17 kept h fits;
+          only = λ rows h. fits-unique typed well sound handles kept h fits;
           rest = rest;
           size = written-length (sourceOf b) before has-room;
           count = (cpuList b, cpu-listing well, cpu-count b);
