@@ -4,18 +4,18 @@ use Prim.Native.Nat.{ℕ, _≤_}
 use native.Mathlib.Omega.{arith}
 use Rattle.laws.specs.Fault.{told, orElse, firstFault}
 use Rattle.laws.proofs.FaultLaws.{place-le}
-use Rattle.laws.proofs.FirstLaws.{Tells, Stage, stage-tells}
+use Rattle.laws.proofs.FirstLaws.{NoneIn, Tells, Stage, stage-tells}
 use Rattle.laws.proofs.RuleStageLaws.{told-place, else-place, then-tells}
 use Rattle.laws.proofs.VerdictLaws.{held, number-stage, once-tells}
 use Rattle.tables.specs.Board.{Board, Typed, nodeCount}
 use Rattle.wellformed.specs.Order.{stage}
 use Rattle.wellformed.specs.Rules.{WellFormed}
-use Rattle.cpus.specs.Rules.{CpuRule, PhandleRule}
+use Rattle.cpus.specs.Rules.{CpuRule, SoundCpus, PhandleRule, SoundPhandles}
 use Rattle.cpus.specs.Check.{isCpu, rootFault, cpuCount, countFault, mpidrReadings, phandleReadings, cpuFault, cpusFault, phandlesFault}
 use Rattle.cpus.proofs.ScanLaws.{first-gathered}
 use Rattle.cpus.proofs.RegMeans.{CellsRead, value-reg}
 use Rattle.cpus.proofs.FaultMeans.{CpuSays, OwnPhandle, cpuFaultAt, phandleFaultAt, root-told, count-told, cpu-says, phandle-told}
-use Rattle.cpus.proofs.RuleMeans.{staged, root-broken, count-broken, cpu-broken, phandle-broken}
+use Rattle.cpus.proofs.RuleMeans.{staged, cpu-staged, phandle-staged, root-broken, count-broken, cpu-broken, phandle-broken}
 
 -- the stages of the cpu records, place by place
 module _ (b : Board) where
@@ -61,6 +61,14 @@ module _ {b : Board} (typed : Typed b) (well : WellFormed b) where
       rw (phandle-places b)
       (stage-tells stage (PhandleRule b) (stage 17) (nodeCount (b .nodes)) (phandleFaultAt b)
       (number-stage stage (PhandleRule b) 17 (omega arith) (OwnPhandle b) (λ m q r _. phandle-broken well r) (λ q _. phandle-told typed well q)))
+
+-- where nothing is told the cpu nodes and the phandles are sound
+module _ {b : Board} where
+  pub cpus-kept : NoneIn stage (CpuRule b) (stage 9) (stage 15) → SoundCpus b
+  cpus-kept none n p r = let t = cpu-staged (staged r) in none n p (r, t .0, t .1)
+
+  pub phandles-kept : NoneIn stage (PhandleRule b) (stage 17) (stage 18) → SoundPhandles b
+  phandles-kept none n p r = let t = phandle-staged r in none n p (r, t .0, t .1)
 
 -- of which places they are told
 module _ (b : Board) where

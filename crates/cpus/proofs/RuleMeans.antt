@@ -57,11 +57,15 @@ module _ {b : Board} where
   staged (CpuRule.reg i c f) = Staged.cpu c (λ _ _. no-reg c f)
   staged (CpuRule.repeatedReg i j value c d lt g h) = Staged.cpu c (λ well _. twice well c d lt g h)
 
-  -- their stages
+  -- the stages of rules 9 to 13, and of rule 17
   pub cpu-staged : {s m q : ℕ} → Staged b s m q → (stage 9 ≤ s) × (s < stage 15)
   cpu-staged (Staged.root _) = omega arith
   cpu-staged (Staged.count _) = omega arith
   cpu-staged (Staged.cpu _ _) = omega arith
+
+  pub phandle-staged : {m q : ℕ} → PhandleRule b m q → (stage 17 ≤ stage m) × (stage m < stage 18)
+  phandle-staged (PhandleRule.phandle _ _ _) = omega arith
+  phandle-staged (PhandleRule.repeatedPhandle _ _ _ _ _ _ _ _) = omega arith
 
   module _ (well : WellFormed b) where
     pub root-broken : {m q : ℕ} → Staged b (stage 9) m q → (m ≡ 9) × (q ≡ 0) × (Root b → ⊥)

@@ -133,11 +133,11 @@ module _ (b : Board) where
       the-stage 5 (λ q lt. told-breaks refl (property-told b q lt))
 
   -- where nothing is told the tables are well-formed
-  pub none-broken : NoneIn stage (TableRule b) 0 (stage 9) → WellFormed b
-  none-broken none n p r = none n p (r, omega arith, rule-staged r)
+  pub tables-kept : NoneIn stage (TableRule b) 0 (stage 9) → WellFormed b
+  tables-kept none n p r = none n p (r, omega arith, rule-staged r)
 
   pub table-sound : tableFault b .number ≡ 0 → WellFormed b
-  table-sound z = none-broken (table-tells .none z .1)
+  table-sound z = tables-kept (table-tells .none z .1)
 
   -- a place that is told is at most the greatest count of records
   pub table-place : tableFault b .place ≤ maxProperties
