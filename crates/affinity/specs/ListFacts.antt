@@ -1,9 +1,9 @@
 -- What is answered of a list of MPIDRs, as facts: rules 28 to 30, the hash and the slot (01, "The slot").
 use mathlib.Core.Path.{_≡_}
-use mathlib.Core.List.{List}
+use mathlib.Core.List.{List, [], _∷_}
 use Prim.Native.Nat.{ℕ, _<_}
 use lib.ListN.{length, getD}
-use Rattle.laws.specs.First.{First}
+use Rattle.laws.specs.First.{stageIn, First}
 use Rattle.laws.specs.Listing.{Member}
 use Rattle.affinity.specs.declared.Hash.{Hash}
 use Rattle.affinity.specs.declared.ListHash.{ListHash}
@@ -24,16 +24,19 @@ pub data SlotRule (list : List ℕ) (mpidr : ℕ) : ℕ → ℕ → Type 0 where
   ofList : {n p : ℕ} → ListRule list n p → SlotRule list mpidr n p
   listUnknown : (Member list mpidr → ⊥) → SlotRule list mpidr 30 0
 
--- the order: 28, 29, 30, each a stage of its own
+-- the order: each number a stage of its own
+abbrev pub listStages : List (List ℕ)
+listStages = (28 ∷ []) ∷ (29 ∷ []) ∷ (30 ∷ []) ∷ []
+
 abbrev pub listStage : ℕ → ℕ
-listStage n = n
+listStage = stageIn listStages
 
 -- a refusal tells the first broken rule, and no hash
 pub record HashRefused (list : List ℕ) (r : ListHash) : Type 0 where
   pub first : First listStage (ListRule list) (r .number) (r .place)
   pub hash : r .hash ≡ noHash
 
--- an acceptance: no rule is broken
+-- an acceptance: no rule is broken, and the hash is the list's
 pub record HashAccepted (list : List ℕ) (r : ListHash) : Type 0 where
   pub none : (n p : ℕ) → ListRule list n p → ⊥
   pub place : r .place ≡ 0
@@ -43,15 +46,18 @@ pub record HashDemands (list : List ℕ) (r : ListHash) : Type 0 where
   pub refused : (r .number ≡ 0 → ⊥) → HashRefused list r
   pub sound : r .number ≡ 0 → HashAccepted list r
 
--- the same of one MPIDR's slot
+-- a refusal tells the first broken rule, and no slot
 pub record SlotRefused (list : List ℕ) (mpidr : ℕ) (r : ListSlot) : Type 0 where
   pub first : First listStage (SlotRule list mpidr) (r .number) (r .place)
   pub slot : r .slot ≡ 0
 
+-- an acceptance: no rule is broken, and the slot is that under the list's hash
 pub record SlotAccepted (list : List ℕ) (mpidr : ℕ) (r : ListSlot) : Type 0 where
   pub none : (n p : ℕ) → SlotRule list mpidr n p → ⊥
   pub place : r .place ≡ 0
-  pub slot : (h : Hash) → IsHash list h → r .slot ≡ slotOf h mpidr
+  pub hash : Hash
+  pub is-hash : IsHash list hash
+  pub slot : r .slot ≡ slotOf hash mpidr
 
 pub record SlotDemands (list : List ℕ) (mpidr : ℕ) (r : ListSlot) : Type 0 where
   pub refused : (r .number ≡ 0 → ⊥) → SlotRefused list mpidr r

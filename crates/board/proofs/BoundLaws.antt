@@ -47,7 +47,7 @@ module _ (b : Board) (room : ℕ) where
   fault-place : boardFault b room .place ≤ maxProperties
   fault-place =
       rw (board-stages b room)
-      (else-place (tableFault b) _ (table-place b) λ z. le-trans later-place (omega (arith, wf-nodes (table-sound b .0 z) .1)))
+      (else-place (tableFault b) _ (table-place b) λ z. le-trans later-place (omega (arith, wf-nodes (table-sound b z) .1)))
 
   pub answer-place : answerOf b room .place ≤ maxProperties
   unfolding answerOf

@@ -13,9 +13,8 @@ use Rattle.laws.proofs.RuleStageLaws.{tells-first, tells-none}
 use Rattle.layout.specs.Row.{rowSize}
 use Rattle.affinity.specs.Hash.{hashOf}
 use Rattle.tables.specs.Board.{Board, Typed, nodeCount}
-use Rattle.wellformed.specs.Order.{stage}
 use Rattle.wellformed.specs.Rules.{WellFormed}
-use Rattle.cpus.specs.Rules.{CpuRule, SoundCpus}
+use Rattle.cpus.specs.Rules.{SoundCpus, SoundPhandles}
 use Rattle.cpus.specs.Check.{cpuCount, cpuList, mpidrList}
 use Rattle.cpus.proofs.CpuMeans.{cpu-listing, cpu-count}
 use Rattle.cpumap.specs.Map.{Map}
@@ -30,10 +29,10 @@ use Rattle.rows.proofs.FitUnique.{fits-unique}
 use Rattle.rows.proofs.SlotMeans.{slots-distinct-rows, slots-bounded}
 use Rattle.rows.proofs.WrittenLaws.{written-front, written-rest, written-length, written-row}
 use Rattle.board.specs.declared.BoardAnswer.{BoardAnswer}
-use Rattle.board.specs.Rules.{Breaks, MapBroken, Room}
+use Rattle.board.specs.Rules.{Breaks, Told, MapBroken, Room}
 use Rattle.board.specs.Answer.{boardFault, answerOf, rowsAfter}
 use Rattle.board.specs.Reading.{slotAt, Refused, Accepted, Demands}
-use Rattle.board.proofs.StageLaws.{CpuPlace, cpu-place, map-place, stage-range}
+use Rattle.board.proofs.StageLaws.{breaks-staged}
 use Rattle.board.proofs.BoardTells.{board-tells}
 
 -- the rows of a board that breaks no rule
@@ -47,10 +46,10 @@ module _
     well n p r = none n p (Breaks.tables r)
 
     sound : SoundCpus b
-    sound n p r _ = none n p (Breaks.cpus r)
+    sound n p r = none n p (Breaks.cpus r)
 
-    no17 : (p : ℕ) → CpuRule b 17 p → ⊥
-    no17 p r = none 17 p (Breaks.cpus r)
+    handles : SoundPhandles b
+    handles n p r = none n p (Breaks.phandles r)
 
     kept : (n p : ℕ) → MapRule b n p → ⊥
     kept n p r = none n p (Breaks.topology r)
@@ -62,10 +61,10 @@ module _
     room = ⊎-elim (λ lt. absurd (none 27 0 (Breaks.noRoom (cpuList b) (cpu-listing well) (rw (cpu-count b) at lt)))) (λ le. le) (lt-or-le (length before) (rowSize * cpuCount b))
 
     leaves : LeafFacts b
-    leaves = leaf-facts typed well sound no17 (the-map .1) kept
+    leaves = leaf-facts typed well sound handles (the-map .1) kept
 
     same : leafCount b ≡ cpuCount b
-    same = leaf-count typed well sound no17 (the-map .1) kept
+    same = leaf-count typed well sound handles (the-map .1) kept
 
     has-room : rowSize * leafCount b ≤ length before
     has-room = omega (arith, same, room)
@@ -90,7 +89,7 @@ module _
         record {
           place = refl;
           fits = fits;
-          only = λ rows h. fits-unique typed well sound no17 kept h fits;
+          only = λ rows h. fits-unique typed well sound handles kept h fits;
           rest = rest;
           size = written-length (sourceOf b) before has-room;
           count = (cpuList b, cpu-listing well, cpu-count b);
@@ -109,17 +108,19 @@ module _ {b : Board} (typed : Typed b) (before : List ℕ) where
   abbrev buffer : List ℕ
   buffer = rowsAfter b before
 
-  staged : (m q : ℕ) → Breaks b (length before) m q → 1 ≤ stage m
-  staged m q r = stage-range (length before) m q r .0
+  first-told : (number ≡ 0 → ⊥) → Told b (length before) number (boardFault b (length before) .place)
+  first-told ne =
+      let tells = board-tells typed (length before) in
+      record { first = tells-first (λ n p. breaks-staged) tells ne; staged = tells .told ne .broken .2 }
 
   refusal : (number ≡ 0 → ⊥) → Refused b before answer buffer
   unfolding answerOf rowsAfter
   refusal ne =
       rw (ne-eqb number 0 ne)
-      (record { first = tells-first stage (Breaks b (length before)) staged (board-tells typed (length before)) ne; count = refl; hash = refl; buffer = refl })
+      (record { first = first-told ne; count = refl; hash = refl; buffer = refl })
 
   none : number ≡ 0 → (n p : ℕ) → Breaks b (length before) n p → ⊥
-  none z = tells-none stage (Breaks b (length before)) staged (board-tells typed (length before)) z
+  none = tells-none (λ n p. breaks-staged) (board-tells typed (length before))
 
   acceptance : number ≡ 0 → Accepted b before answer buffer
   unfolding answerOf rowsAfter
@@ -135,25 +136,25 @@ module _ {b : Board} (typed : Typed b) (before : List ℕ) where
       go false e = rw e
 
   -- a map rule is broken where some rule is, none of them being one of the other layers
-  map-broken : WellFormed b → SoundCpus b → Room b (length before) → (n p : ℕ) → Breaks b (length before) n p → MapBroken b (length before)
+  map-broken : WellFormed b → SoundCpus b → Room b (length before) → (n p : ℕ) → Breaks b (length before) n p → MapBroken b
   map-broken well sound room n p (Breaks.tables r) = absurd (well n p r)
-  map-broken well sound room n p (Breaks.cpus r) = go (cpu-place r)
-    where
-      go : CpuPlace n → MapBroken b (length before)
-      go (CpuPlace.early lt _ _) = absurd (sound n p r lt)
-      go (CpuPlace.phandle e _) = record { number = n; place = p; broken = Breaks.cpus r; low = omega arith; high = omega arith }
-  map-broken well sound room n p (Breaks.topology r) =
-      record { number = n; place = p; broken = Breaks.topology r; low = map-place r .from; high = map-place r .to }
+  map-broken well sound room n p (Breaks.cpus r) = absurd (sound n p r)
+  map-broken well sound room n p (Breaks.phandles r) = MapBroken.phandle r
+  map-broken well sound room n p (Breaks.topology r) = MapBroken.map r
   map-broken well sound room n p (Breaks.noRoom cpus l lt) = absurd (room (Breaks.noRoom cpus l lt))
 
-  exactly : WellFormed b → SoundCpus b → Room b (length before) → (number ≡ 0) ↔ (((m : ℕ) × Map b m) × (MapBroken b (length before) → ⊥))
+  exactly : WellFormed b → SoundCpus b → Room b (length before) → (number ≡ 0) ↔ (((m : ℕ) × Map b m) × (MapBroken b → ⊥))
   exactly well sound room =
-      (λ z. (the-map typed before (none z), λ h. none z (h .number) (h .place) (h .broken)), λ t. go (eqb number 0) refl (t .1))
+      (λ z. (the-map typed before (none z), unbroken z), λ t. go (eqb number 0) refl (t .1))
     where
-      go : (t : Bool) → eqb number 0 ≡ t → (MapBroken b (length before) → ⊥) → number ≡ 0
+      unbroken : number ≡ 0 → MapBroken b → ⊥
+      unbroken z (MapBroken.map r) = none z _ _ (Breaks.topology r)
+      unbroken z (MapBroken.phandle r) = none z _ _ (Breaks.phandles r)
+
+      go : (t : Bool) → eqb number 0 ≡ t → (MapBroken b → ⊥) → number ≡ 0
       go true e no-rule = eqb-true number 0 e
       go false e no-rule =
-          absurd (no-rule (map-broken well sound room _ _ (refusal (eqb-false number 0 e) .first .broken)))
+          absurd (no-rule (map-broken well sound room _ _ (first-told (eqb-false number 0 e) .first .broken)))
 
   -- the claim
   pub demands : Demands b before answer buffer

@@ -35,7 +35,7 @@ module _ (b : Board) (before : List ℕ) (x y : BoardAnswer) (after other : List
   -- both refuse: the first broken rule is one, and all else is 0 or as before
   both-refuse : Refused b before x after → Refused b before y other → Same
   both-refuse h g =
-      let told = first-unique stage (Breaks b (length before)) _ _ _ _ (h .first) (g .first) in
+      let told = first-unique stage (Breaks b (length before)) _ _ _ _ (h .first .first) (g .first .first) in
       (parts (told .0) (told .1) (h .count ∙ sym (g .count)) (h .hash ∙ sym (g .hash)), h .buffer ∙ sym (g .buffer))
 
   -- both accept: the cpu records, their MPIDRs and the rows that fit are one each
@@ -60,7 +60,7 @@ apart :
     x .number ≡ 0 →
     (y .number ≡ 0 → ⊥) →
     A
-apart h g z ne = absurd (h .sound z _ _ (g .refused ne .first .broken))
+apart h g z ne = absurd (h .sound z _ _ (g .refused ne .first .first .broken))
 
 pub demands-unique :
     {b : Board} (before : List ℕ) {x y : BoardAnswer} {after other : List ℕ} →
@@ -72,7 +72,7 @@ demands-unique {b} before {x} {y} {after} {other} h g = go (eqb (x .number) 0) r
     accepted : {z : BoardAnswer} {left : List ℕ} → Demands b before z left → z .number ≡ 0 → Accepted b before z left
     accepted d z =
         let none = d .sound z in
-        d .reading (λ n p r. none n p (Breaks.tables r)) (λ n p r _. none n p (Breaks.cpus r)) (none 27 0) .accepted z
+        d .reading (λ n p r. none n p (Breaks.tables r)) (λ n p r. none n p (Breaks.cpus r)) (none 27 0) .accepted z
 
     go : (s : Bool) → eqb (x .number) 0 ≡ s → (t : Bool) → eqb (y .number) 0 ≡ t → (x ≡ y) × (after ≡ other)
     go true e true f =

@@ -45,7 +45,7 @@ pub record Accepted (b : Board) (before : List ℕ) (answer : BoardAnswer) (afte
 
 -- demand 3: accepted exactly when the board has a map and no map rule is broken
 pub record Reading (b : Board) (before : List ℕ) (answer : BoardAnswer) (after : List ℕ) : Type 0 where
-  pub exactly : (answer .number ≡ 0) ↔ (((m : ℕ) × Map b m) × (MapBroken b (length before) → ⊥))
+  pub exactly : (answer .number ≡ 0) ↔ (((m : ℕ) × Map b m) × (MapBroken b → ⊥))
   pub refused : (answer .number ≡ 0 → ⊥) → Refused b before answer after
   pub accepted : answer .number ≡ 0 → Accepted b before answer after
 

@@ -12,16 +12,24 @@ use Rattle.laws.proofs.DecideLaws.{Decides, decides-as, decides-not, then-decid
 use Rattle.tables.specs.Board.{Board, nodeCount, nodeName, nameOffset, nameLength}
 use Rattle.tables.specs.Tree.{isBelow, Child, Ancestor}
 use Rattle.wellformed.specs.Rules.{WellFormed}
-use Rattle.tables.proofs.DepthLaws.{below-test, ancestor-earlier}
+use Rattle.tables.proofs.DepthLaws.{below-test, ancestor-earlier, ancestor-inside}
 use Rattle.wellformed.proofs.WellFormedLaws.{wf-name}
 use Rattle.tables.proofs.DecideLaws.{child-test, range-test}
 use Rattle.cpumap.specs.Words.{mapWord}
-use Rattle.cpumap.specs.Map.{Map, InMap, Outside}
+use Rattle.cpumap.specs.Map.{Map, InMap, Outside, Leaf}
 use Rattle.cpumap.specs.Find.{isMapName, isMap, mapOf}
 
 -- the ancestor test decides the relation
 pub ancestor-test : (nodes : List ℕ) (a i : ℕ) → Decides (isBelow nodes i a) (Ancestor nodes a i)
 ancestor-test nodes a i = below-test a i
+
+-- a leaf is below the map, and a record below the map is a record
+pub leaf-in-map : {b : Board} {i : ℕ} → Leaf b i → InMap b i
+leaf-in-map (Leaf.aThread s _) = s
+leaf-in-map (Leaf.aCore s _ _) = s
+
+pub in-map-inside : {b : Board} {i : ℕ} → InMap b i → i < nodeCount (b .nodes)
+in-map-inside s = ancestor-inside (s .below)
 
 -- there is at most one map
 pub map-unique : (b : Board) (m k : ℕ) → Map b m → Map b k → m ≡ k

@@ -88,7 +88,7 @@ module _ (b : Board) where
   cpus-nameless i e kind t = nameless cpusWord refl kind (t .0) (rw e at (t .1))
 
   pub root-nameless : SoundCpus b → (kind : Kind) → Is b kind 0 → ⊥
-  root-nameless sound kind t = sound 9 0 (CpuRule.notCpus (λ e. cpus-nameless 0 e kind t)) (omega arith)
+  root-nameless sound kind t = sound 9 0 (CpuRule.notCpus (λ e. cpus-nameless 0 e kind t))
 
   pub map-nameless : (i : ℕ) → nodeName b i ≡ mapWord → (kind : Kind) → Is b kind i → ⊥
   unfolding nameOf startsWith numberOf digitsFrom

@@ -2,22 +2,17 @@
 use mathlib.Core.Path.{_≡_, sym, _∙_}
 use mathlib.Core.Logic.{⊎-elim}
 use Prim.Native.Nat.{ℕ, _<_}
-use native.Mathlib.Omega.{arith}
 use Rattle.laws.proofs.FirstLaws.{compared}
+use Rattle.laws.proofs.VerdictLaws.{held}
 use Rattle.tables.specs.Board.{Board, Typed}
 use Rattle.wellformed.specs.Rules.{WellFormed}
 use Rattle.cpus.specs.declared.Reading.{Reading}
 use Rattle.cpus.specs.Node.{Cpu, Reg, mpidr, Phandle}
-use Rattle.cpus.specs.Rules.{CpuRule, SoundCpus}
+use Rattle.cpus.specs.Rules.{CpuRule, SoundCpus, PhandleRule, SoundPhandles}
 use Rattle.cpus.specs.Check.{mpidrAt, phandleReadings}
 use Rattle.cpus.proofs.RegMeans.{reg-bounds, value-reg, MpidrSays, mpidr-says, PhandleSays, phandle-says}
 use Rattle.cpus.proofs.PairMeans.{mpidr-apart}
-use Rattle.cpus.proofs.FaultMeans.{Verdict, Root, CountRange, root-told, count-told}
-
--- what holds where a rule is not broken
-held : {b : Board} {n p v : ℕ} {P : Type 0} → Verdict b n p P v → (CpuRule b n p → ⊥) → P
-held (Verdict.sound p) none = p
-held (Verdict.broken r) none = absurd (none r)
+use Rattle.cpus.proofs.FaultMeans.{Root, CountRange, root-told, count-told}
 
 -- records of which neither can be the earlier are the same
 same-record : (i j : ℕ) → (j < i → ⊥) → (i < j → ⊥) → i ≡ j
@@ -27,10 +22,10 @@ module _ {b : Board} (typed : Typed b) (well : WellFormed b) where
   module _ (sound : SoundCpus b) where
     -- `/cpus` itself, and the number of cpu records
     pub root-given : Root b
-    root-given = held (root-told typed well) (λ r. sound 9 0 r (omega arith))
+    root-given = held (root-told typed well) (sound 9 0)
 
     pub count-range : CountRange b
-    count-range = held (count-told typed well) (λ r. sound 10 0 r (omega arith))
+    count-range = held (count-told typed well) (sound 10 0)
 
     -- each cpu record has a `reg`, which is its MPIDR ..
     pub cpu-reg : {i : ℕ} → Cpu b i → (u : ℕ) × (l : ℕ) × Reg b i u l × (mpidrAt b i ≡ mpidr u l)
@@ -38,15 +33,15 @@ module _ {b : Board} (typed : Typed b) (well : WellFormed b) where
       where
         go : {q : Reading} → MpidrSays b i q → (u : ℕ) × (l : ℕ) × Reg b i u l × (q .value ≡ mpidr u l)
         go (MpidrSays.reg {u = u} {l = l} _ r e) = (u, l, r, e)
-        go (MpidrSays.untyped f) = absurd (sound 11 i (CpuRule.deviceType i c f) (omega arith))
-        go (MpidrSays.unread _ f) = absurd (sound 12 i (CpuRule.reg i c f) (omega arith))
+        go (MpidrSays.untyped f) = absurd (sound 11 i (CpuRule.deviceType i c f))
+        go (MpidrSays.unread _ f) = absurd (sound 12 i (CpuRule.reg i c f))
 
     -- .. and no other cpu record has the same
     pub reg-apart : {i j u l : ℕ} → Cpu b i → Cpu b j → Reg b i u l → Reg b j u l → i ≡ j
     reg-apart {i} {j} c d r s = same-record i j (later c d r s) (later d c s r)
       where
         later : {i j u l : ℕ} → Cpu b i → Cpu b j → Reg b i u l → Reg b j u l → j < i → ⊥
-        later {i} {j} c d r s lt = let t = value-reg well r s in sound 13 i (CpuRule.repeatedReg i j (t .0) c d lt (t .1) (t .2)) (omega arith)
+        later {i} {j} c d r s lt = let t = value-reg well r s in sound 13 i (CpuRule.repeatedReg i j (t .0) c d lt (t .1) (t .2))
 
     pub mpidr-distinct : {i j : ℕ} → Cpu b i → Cpu b j → mpidrAt b i ≡ mpidrAt b j → i ≡ j
     mpidr-distinct c d e =
@@ -57,21 +52,21 @@ module _ {b : Board} (typed : Typed b) (well : WellFormed b) where
         let p = mpidr-apart (r .0) (r .1) (g .0) (g .1) (s .0) (s .1) (h .0) (h .1) (sym (r .3) ∙ e ∙ s .3) in
         reg-apart c d (r .2) (rw (p .0, p .1) (s .2))
 
-  module _ (none : (p : ℕ) → CpuRule b 17 p → ⊥) where
+  module _ (sound : SoundPhandles b) where
     -- each cpu record has a phandle ..
     pub cpu-phandle : {i : ℕ} → Cpu b i → Phandle b i (phandleReadings b i .value)
     cpu-phandle {i} c = go (phandle-says typed well i)
       where
         go : {q : Reading} → PhandleSays b i q → Phandle b i (q .value)
         go (PhandleSays.phandle p) = p
-        go (PhandleSays.none f) = absurd (none i (CpuRule.phandle i c f))
+        go (PhandleSays.none f) = absurd (sound 17 i (PhandleRule.phandle i c f))
 
     -- .. and no other cpu record has the same
     pub phandle-apart : {i j h : ℕ} → Cpu b i → Cpu b j → Phandle b i h → Phandle b j h → i ≡ j
     phandle-apart {i} {j} c d p q = same-record i j (later c d p q) (later d c q p)
       where
         later : {i j h : ℕ} → Cpu b i → Cpu b j → Phandle b i h → Phandle b j h → j < i → ⊥
-        later {i} {j} {h} c d p q lt = none i (CpuRule.repeatedPhandle i j h c d lt p q)
+        later {i} {j} {h} c d p q lt = sound 17 i (PhandleRule.repeatedPhandle i j h c d lt p q)
 
     pub phandle-distinct : {i j : ℕ} → Cpu b i → Cpu b j → phandleReadings b i .value ≡ phandleReadings b j .value → i ≡ j
     phandle-distinct c d e = phandle-apart c d (cpu-phandle c) (rw (sym e) at (cpu-phandle d))

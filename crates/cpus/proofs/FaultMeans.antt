@@ -6,6 +6,7 @@ use native.Mathlib.Omega.{arith}
 use lib.Dec.{eqb, ltb}
 use borrow.Author.Tests.{eqb-true, eqb-false, ltb-true, ltb-false}
 use Rattle.laws.proofs.DecideLaws.{Decides, decides-not, decides-as, eq-decides}
+use Rattle.laws.proofs.VerdictLaws.{Verdict}
 use Rattle.tables.specs.Board.{Board, Typed, rangeIs, nodeName, nameOffset, nameLength}
 use Rattle.tables.specs.Property.{HasValue}
 use Rattle.wellformed.specs.Rules.{WellFormed}
@@ -16,7 +17,7 @@ use Rattle.cpus.specs.declared.RootCells.the-variants.{Broken}
 use Rattle.keys.specs.Key.{deviceTypeKey}
 use Rattle.cpus.specs.Words.{cpusWord, cpuString, sizeCellsKey}
 use Rattle.cpus.specs.Node.{Cpu, AddressCells, SizeCells, Reg, mpidr, Phandle}
-use Rattle.cpus.specs.Rules.{maxCpus, CpuRule}
+use Rattle.cpus.specs.Rules.{maxCpus, CpuRule, PhandleRule}
 use Rattle.cpus.specs.Cell.{cellOf, isNumber}
 use Rattle.cpus.specs.declared.Reading.{Reading}
 use Rattle.cpus.specs.Gather.{unlessSeen}
@@ -29,11 +30,6 @@ use Rattle.cpus.proofs.ValueMeans.{number-test}
 use Rattle.cpus.proofs.RegMeans.{countOf, CellsRead, CellsSay, cells-say, reg-bounds, reg-unique, MpidrSays, mpidr-says, mpidr-read}
 use Rattle.cpus.proofs.RegMeans.{PhandleSays, phandle-says, phandle-read, phandle-unique}
 use Rattle.cpus.proofs.PairMeans.{mpidr-apart}
-
--- the number told of rule n at a place: 0 where P holds, and n where the rule is broken
-pub data Verdict (b : Board) (n p : ℕ) (P : Type 0) : ℕ → Type 0 where
-  sound : P → Verdict b n p P 0
-  broken : CpuRule b n p → Verdict b n p P n
 
 -- rule 9
 pub record RootAt (b : Board) (c : Cells) : Type 0 where
@@ -68,7 +64,7 @@ abbrev pub phandleFaultAt : Board → ℕ → ℕ
 phandleFaultAt b = gatherFault (isCpu (b .nodes) (b .pool)) (phandleReadings b) 17
 
 module _ {b : Board} (typed : Typed b) (well : WellFormed b) where
-  pub root-told : Verdict b 9 0 (Root b) (rootFault b)
+  pub root-told : Verdict (CpuRule b) 9 0 (Root b) (rootFault b)
   unfolding soundCells
   root-told =
       go
@@ -85,16 +81,16 @@ module _ {b : Board} (typed : Typed b) (well : WellFormed b) where
           Decides s (SizeCells b) →
           {r : RootCells} →
           CellsSay b r →
-          Verdict b 9 0 (RootAt b (cellsOf (cond t (cond s r Broken) Broken))) (rootNumber (cond t (cond s r Broken) Broken))
+          Verdict (CpuRule b) 9 0 (RootAt b (cellsOf (cond t (cond s r Broken) Broken))) (rootNumber (cond t (cond s r Broken) Broken))
       go false name s size say = Verdict.broken (CpuRule.notCpus (decides-not name .0 refl))
       go true name false size say = Verdict.broken (CpuRule.sizeCells (decides-not size .0 refl))
       go true name true size (CellsSay.none f) = Verdict.broken (CpuRule.addressCells f)
       go true name true size (CellsSay.cells a) = Verdict.sound (record { name = name .0 refl; cells = a; size = size .0 refl })
 
-  pub count-told : Verdict b 10 0 (CountRange b) (countFault (cpuCount b))
+  pub count-told : Verdict (CpuRule b) 10 0 (CountRange b) (countFault (cpuCount b))
   count-told = go (eqb (cpuCount b) 0) refl (ltb maxCpus (cpuCount b)) refl
     where
-      go : (t : Bool) → eqb (cpuCount b) 0 ≡ t → (s : Bool) → ltb maxCpus (cpuCount b) ≡ s → Verdict b 10 0 (CountRange b) (cond t 10 (cond s 10 0))
+      go : (t : Bool) → eqb (cpuCount b) 0 ≡ t → (s : Bool) → ltb maxCpus (cpuCount b) ≡ s → Verdict (CpuRule b) 10 0 (CountRange b) (cond t 10 (cond s 10 0))
       go true e s f =
           let z = eqb-true (cpuCount b) 0 e in
           Verdict.broken (CpuRule.noCpus (λ i c. let m = cpu-listing well .all i c in omega (arith, m .inside, cpu-count b)))
@@ -148,7 +144,7 @@ module _ {b : Board} (typed : Typed b) (well : WellFormed b) where
       go true cpu (MpidrSays.reg {u = u} {l = l} k r _) false e =
           CpuSays.sound (cpu .0 refl) k r (λ j lt c s. decides-not (e u l r refl) .0 refl (j, lt, (cpu-test well j .1 c, s)))
 
-  pub phandle-told : (i : ℕ) → ((j : ℕ) → j < i → phandleFaultAt b j ≡ 0) → Verdict b 17 i (OwnPhandle b i) (phandleFaultAt b i)
+  pub phandle-told : (i : ℕ) → ((j : ℕ) → j < i → phandleFaultAt b j ≡ 0) → Verdict (PhandleRule b) 17 i (OwnPhandle b i) (phandleFaultAt b i)
   unfolding gatherFault
   phandle-told i none =
       go (isCpu (b .nodes) (b .pool) i) (cpu-test well i) (phandle-says typed well i) _
@@ -168,11 +164,11 @@ module _ {b : Board} (typed : Typed b) (well : WellFormed b) where
           PhandleSays b i q →
           (seen : Bool) →
           ((h : ℕ) → Phandle b i h → q .number ≡ 0 → Decides seen ((j : ℕ) × (j < i) × ((isCpu (b .nodes) (b .pool) j ≡ true) × Phandle b j h))) →
-          Verdict b 17 i (OwnPhandle b i) (cond t (unlessSeen 17 seen q .number) 0)
+          Verdict (PhandleRule b) 17 i (OwnPhandle b i) (cond t (unlessSeen 17 seen q .number) 0)
       go false cpu q seen e = Verdict.sound (λ k. absurd (decides-not cpu .0 refl k))
-      go true cpu (PhandleSays.none f) seen e = Verdict.broken (CpuRule.phandle i (cpu .0 refl) f)
+      go true cpu (PhandleSays.none f) seen e = Verdict.broken (PhandleRule.phandle i (cpu .0 refl) f)
       go true cpu (PhandleSays.phandle {h = h} p) true e =
           let t = e h p refl .0 refl in
-          Verdict.broken (CpuRule.repeatedPhandle i (t .0) h (cpu .0 refl) (cpu-test well (t .0) .0 (t .2 .0)) (t .1) p (t .2 .1))
+          Verdict.broken (PhandleRule.repeatedPhandle i (t .0) h (cpu .0 refl) (cpu-test well (t .0) .0 (t .2 .0)) (t .1) p (t .2 .1))
       go true cpu (PhandleSays.phandle {h = h} p) false e =
           Verdict.sound (λ _. (h, p, λ j lt c q. decides-not (e h p refl) .0 refl (j, lt, (cpu-test well j .1 c, q))))

@@ -1,4 +1,4 @@
--- Rules 9 to 13 and 17 as facts: each constructor is a way to break a rule of that number at that place.
+-- Rules 9 to 13, and rule 17, as facts: each constructor is a way to break a rule of that number at that place.
 use mathlib.Core.Path.{_≡_}
 use mathlib.Core.List.{List}
 use Prim.Native.Nat.{ℕ, _<_}
@@ -22,9 +22,15 @@ pub data CpuRule (b : Board) : ℕ → ℕ → Type 0 where
   deviceType : (i : ℕ) → Cpu b i → (HasValue b i deviceTypeKey cpuString → ⊥) → CpuRule b 11 i
   reg : (i : ℕ) → Cpu b i → ((upper lower : ℕ) → Reg b i upper lower → ⊥) → CpuRule b 12 i
   repeatedReg : (i j : ℕ) (value : List ℕ) → Cpu b i → Cpu b j → j < i → HasValue b i regKey value → HasValue b j regKey value → CpuRule b 13 i
-  phandle : (i : ℕ) → Cpu b i → ((h : ℕ) → Phandle b i h → ⊥) → CpuRule b 17 i
-  repeatedPhandle : (i j h : ℕ) → Cpu b i → Cpu b j → j < i → Phandle b i h → Phandle b j h → CpuRule b 17 i
 
 -- sound cpu nodes: none of rules 9 to 13 is broken
 abbrev pub SoundCpus : Board → Type 0
-SoundCpus b = (n p : ℕ) → CpuRule b n p → n < 14 → ⊥
+SoundCpus b = (n p : ℕ) → CpuRule b n p → ⊥
+
+pub data PhandleRule (b : Board) : ℕ → ℕ → Type 0 where
+  phandle : (i : ℕ) → Cpu b i → ((h : ℕ) → Phandle b i h → ⊥) → PhandleRule b 17 i
+  repeatedPhandle : (i j h : ℕ) → Cpu b i → Cpu b j → j < i → Phandle b i h → Phandle b j h → PhandleRule b 17 i
+
+-- sound phandles: rule 17 is not broken
+abbrev pub SoundPhandles : Board → Type 0
+SoundPhandles b = (n p : ℕ) → PhandleRule b n p → ⊥

@@ -9,9 +9,9 @@ use Rattle.names.specs.declared.TopologyName.{TopologyName}
 use Rattle.names.specs.Kind.{Kind}
 use Rattle.tables.specs.Board.{Board, Typed, nodeCount}
 use Rattle.wellformed.specs.Rules.{WellFormed}
-use Rattle.tables.proofs.DepthLaws.{below-test, ancestor-earlier, ancestor-inside}
+use Rattle.tables.proofs.DepthLaws.{below-test, ancestor-earlier}
 use Rattle.wellformed.proofs.WellFormedLaws.{wf-depth}
-use Rattle.cpus.specs.Rules.{CpuRule}
+use Rattle.cpus.specs.Rules.{SoundPhandles}
 use Rattle.cpus.specs.Check.{cpuList}
 use Rattle.leaves.specs.declared.RecordCheck.{RecordCheck}
 use Rattle.cpumap.specs.Map.{Map, InMap, Leaf, Names}
@@ -20,18 +20,11 @@ use Rattle.topology.specs.Check.{hasChild, isLeafName}
 use Rattle.leaves.specs.Scan.{Tree, treeAt, check, isLeaf, cpuOf}
 use Rattle.topology.proofs.ChildMeans.{childless-test}
 use Rattle.cpumap.proofs.NameFacts.{Says, topology-is, topology-says}
-use Rattle.cpumap.proofs.MapMeans.{in-map-below}
+use Rattle.cpumap.proofs.MapMeans.{leaf-in-map, in-map-inside, in-map-below}
 use Rattle.leaves.proofs.CheckCases.{shapeNumber, answers-number, Under, Checked, checked}
 use Rattle.leaves.proofs.LeafCount.{leaf-is}
 use Rattle.leaves.proofs.PhandleMeans.{cpuAt, cpuIndex, in-cpus}
 use Rattle.leaves.proofs.LeafMeans.{index-names, names-index}
-
-pub leaf-in-map : {b : Board} {i : ℕ} → Leaf b i → InMap b i
-leaf-in-map (Leaf.aThread s _) = s
-leaf-in-map (Leaf.aCore s _ _) = s
-
-pub in-map-inside : {b : Board} {i : ℕ} → InMap b i → i < nodeCount (b .nodes)
-in-map-inside s = ancestor-inside (s .below)
 
 -- the names of leaves
 module _ {b : Board} (well : WellFormed b) (i : ℕ) where
@@ -65,7 +58,7 @@ module _ {b : Board} {m : ℕ} (is-map : Map b m) (i : ℕ) where
       let lt = ancestor-earlier a in
       record { not-top = λ e. omega arith; not-map = λ e. omega arith; below = below-test m i .1 a }
 
-module _ {b : Board} (typed : Typed b) (well : WellFormed b) (no17 : (p : ℕ) → CpuRule b 17 p → ⊥) {m : ℕ} (is-map : Map b m) (i : ℕ) where
+module _ {b : Board} (typed : Typed b) (well : WellFormed b) (handles : SoundPhandles b) {m : ℕ} (is-map : Map b m) (i : ℕ) where
   abbrev t : Tree
   t = treeAt b m
 
@@ -73,7 +66,7 @@ module _ {b : Board} (typed : Typed b) (well : WellFormed b) (no17 : (p : ℕ) �
   pub check-leaf : isLeaf t i ≡ true → Leaf b i × Names b i (cpuAt b (cpuOf t i)) × (cpuOf t i < length (cpuList b))
   check-leaf h =
       let n = leaf-is t i h in
-      (name-leaf well i (under-in-map is-map i (n .under)) (n .name), rw (n .cpu) (index-names typed well no17 i (rw (n .cpu) at (n .inside))), in-cpus b (n .inside))
+      (name-leaf well i (under-in-map is-map i (n .under)) (n .name), rw (n .cpu) (index-names typed well handles i (rw (n .cpu) at (n .inside))), in-cpus b (n .inside))
 
   -- a leaf at which the check answers no number is answered as one
   pub leaf-check : Leaf b i → check t i .number ≡ 0 → isLeaf t i ≡ true
@@ -90,4 +83,4 @@ module _ {b : Board} (typed : Typed b) (well : WellFormed b) (no17 : (p : ℕ) �
 
   -- the cpu answered is the index of the cpu record that the leaf names
   pub names-cpu : (c : ℕ) → isLeaf t i ≡ true → Names b i c → cpuOf t i ≡ cpuIndex b c
-  names-cpu c h n = leaf-is t i h .cpu ∙ names-index typed well no17 i c n
+  names-cpu c h n = leaf-is t i h .cpu ∙ names-index typed well handles i c n

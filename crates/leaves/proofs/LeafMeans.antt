@@ -16,7 +16,7 @@ use Rattle.keys.specs.Key.{cpuKey}
 use Rattle.cpus.specs.declared.Value.{Value}
 use Rattle.cpus.specs.declared.Value.the-variants.{Is, Not}
 use Rattle.cpus.specs.Node.{Phandle}
-use Rattle.cpus.specs.Rules.{CpuRule}
+use Rattle.cpus.specs.Rules.{SoundPhandles}
 use Rattle.cpus.specs.Cell.{cellOf}
 use Rattle.cpus.specs.Check.{cpuList, phandleList}
 use Rattle.cpus.proofs.ValueMeans.{value-unique, cell-test, test-cell}
@@ -28,7 +28,7 @@ use Rattle.leaves.proofs.PhandleMeans.{cpuAt, cpuIndex, in-cpus, in-pha
 abbrev pub namedIndex : Board → ℕ → ℕ
 namedIndex b i = leafCpu (cpuCells (b .props) (b .pool)) (phandleList b) i
 
-module _ {b : Board} (typed : Typed b) (well : WellFormed b) (no17 : (p : ℕ) → CpuRule b 17 p → ⊥) where
+module _ {b : Board} (typed : Typed b) (well : WellFormed b) (handles : SoundPhandles b) where
   -- it is that of a cpu record which the record names ..
   pub index-names : (i : ℕ) → namedIndex b i < length (phandleList b) → Names b i (cpuAt b (namedIndex b i))
   unfolding leafCpu
@@ -45,7 +45,7 @@ module _ {b : Board} (typed : Typed b) (well : WellFormed b) (no17 : (p : ℕ) �
             four = refl;
             cpu = cell-test typed well i cpuKey e .0;
             is-cpu = index-cpu well k (in-cpus b lt);
-            phandle = rw same at (phandle-at typed well no17 k (in-cpus b lt) .value);
+            phandle = rw same at (phandle-at typed well handles k (in-cpus b lt) .value);
           }
 
   -- .. and a record that names a cpu record gives its index
@@ -63,7 +63,7 @@ module _ {b : Board} (typed : Typed b) (well : WellFormed b) (no17 : (p : ℕ) �
       in-k = cpu-index well c (n .is-cpu) .0
 
       of-c : Phandle b c h
-      of-c = rw (cpu-index well c (n .is-cpu) .1) at (phandle-at typed well no17 k in-k)
+      of-c = rw (cpu-index well c (n .is-cpu) .1) at (phandle-at typed well handles k in-k)
 
       cell-is : cellOf (b .props) (b .pool) i cpuKey ≡ Is h
       cell-is = test-cell typed well i cpuKey (rw (value-unique well (n .phandle) (of-c .value)) at (n .cpu)) (of-c .word)
@@ -80,7 +80,7 @@ module _ {b : Board} (typed : Typed b) (well : WellFormed b) (no17 : (p : ℕ) �
       found : first ≡ k
       found =
           let in-first : first < length (phandleList b) = omega (arith, in-phandles b in-k, first-le) in
-          index-apart typed well no17 first k (in-cpus b in-first) in-k (eqb-true _ _ (lowest-passes test (length (phandleList b)) in-first))
+          index-apart typed well handles first k (in-cpus b in-first) in-k (eqb-true _ _ (lowest-passes test (length (phandleList b)) in-first))
 
   -- so it is an index where the record names a cpu record, the only one, and else none
   pub names-inside : (i c : ℕ) → Names b i c → namedIndex b i < length (phandleList b)

@@ -5,81 +5,42 @@ use Prim.Native.Nat.{ℕ, _≤_, _<_}
 use native.Mathlib.Omega.{arith}
 use Rattle.laws.specs.Search.{countBelow}
 use Rattle.laws.proofs.SearchLaws.{true-false}
+use Rattle.laws.proofs.VerdictLaws.{Verdict}
 use Rattle.laws.proofs.LeastLaws.{Tested}
 use Rattle.tables.specs.Board.{Board, Typed, nodeCount}
 use Rattle.wellformed.specs.Rules.{WellFormed}
 use Rattle.cpus.specs.Node.{Cpu}
-use Rattle.cpus.specs.Rules.{CpuRule}
+use Rattle.cpus.specs.Rules.{SoundPhandles}
 use Rattle.cpus.specs.Check.{isCpu}
 use Rattle.cpus.proofs.CpuMeans.{cpu-test}
 use Rattle.cpumap.specs.Map.{Map, Leaf, Names}
+use Rattle.cpumap.proofs.MapMeans.{leaf-in-map, in-map-inside}
 use Rattle.topology.specs.Rules.{MapRule}
 use Rattle.leaves.specs.Scan.{Tree, treeAt, check, isLeaf, cpuOf, namedBelow, repeatFault}
 use Rattle.leaves.proofs.LeafCount.{named-at, named-by}
 use Rattle.leaves.proofs.PhandleMeans.{cpuAt, cpuIndex, cpu-index}
-use Rattle.leaves.proofs.CheckLeaf.{leaf-in-map, in-map-inside, check-leaf, leaf-check, names-cpu}
+use Rattle.leaves.proofs.CheckLeaf.{check-leaf, leaf-check, names-cpu}
 
 -- rule 26 at record i: the cpu record, whose index is the count of earlier ones, is named by no leaf
 unfoldable pub unmappedFault : Tree → ℕ → ℕ
 unmappedFault t i =
     cond (isCpu (t .nodes) (t .pool) i) (cond (namedBelow t (nodeCount (t .nodes)) (countBelow (isCpu (t .nodes) (t .pool)) i)) 0 26) 0
 
--- what a broken rule from 24 on says
-pub data Late (b : Board) (n i : ℕ) : Type 0 where
-  early : n ≤ 23 → Late b n i
-  namesNone : n ≡ 24 → Leaf b i → ((c : ℕ) → Names b i c → ⊥) → Late b n i
-  namedTwice : n ≡ 25 → (j c : ℕ) → Leaf b i → Leaf b j → j < i → Names b i c → Names b j c → Late b n i
-  unmapped : n ≡ 26 → Cpu b i → ((j : ℕ) → Leaf b j → Names b j i → ⊥) → Late b n i
-
-pub rule-late : {b : Board} {n i : ℕ} → MapRule b n i → Late b n i
-rule-late (MapRule.noMap _) = Late.early (omega arith)
-rule-late (MapRule.secondMap _ _ _ _ _ _) = Late.early (omega arith)
-rule-late (MapRule.strayName _ _ _ _ _ _) = Late.early (omega arith)
-rule-late (MapRule.noTopologyName _ _ _) = Late.early (omega arith)
-rule-late (MapRule.wrongKind _ _ _ _ _ _ _) = Late.early (omega arith)
-rule-late (MapRule.mixedKinds _ _ _ _ _ _ _ _ _ _ _ _) = Late.early (omega arith)
-rule-late (MapRule.wrongNumber _ _ _ _ _ _ _ _ _ _) = Late.early (omega arith)
-rule-late (MapRule.deepCluster _ _ _ _ _ _) = Late.early (omega arith)
-rule-late (MapRule.emptyMap _ _ _) = Late.early (omega arith)
-rule-late (MapRule.emptySocket _ _ _ _) = Late.early (omega arith)
-rule-late (MapRule.emptyCluster _ _ _ _) = Late.early (omega arith)
-rule-late (MapRule.namesNone i l none) = Late.namesNone refl l none
-rule-late (MapRule.namedTwice i j c l k lt m n) = Late.namedTwice refl j c l k lt m n
-rule-late (MapRule.unmapped c cpu none) = Late.unmapped refl cpu none
-
 -- leaf i names a cpu record that an earlier leaf names
 abbrev Twice : Board → ℕ → Type 0
 Twice b i = (j : ℕ) × (c : ℕ) × Leaf b i × Leaf b j × (j < i) × Names b i c × Names b j c
 
-module _ {b : Board} where
-  pub rule-24 : {i : ℕ} → MapRule b 24 i → Leaf b i × ((c : ℕ) → Names b i c → ⊥)
-  rule-24 {i} r = go (rule-late r)
-    where
-      go : Late b 24 i → Leaf b i × ((c : ℕ) → Names b i c → ⊥)
-      go (Late.early le) = absurd (omega arith)
-      go (Late.namesNone e l none) = (l, none)
-      go (Late.namedTwice e _ _ _ _ _ _ _) = absurd (omega arith)
-      go (Late.unmapped e _ _) = absurd (omega arith)
+module _ {b : Board} {i : ℕ} where
+  pub rule-24 : MapRule b 24 i → Leaf b i × ((c : ℕ) → Names b i c → ⊥)
+  rule-24 (MapRule.namesNone _ l none) = (l, none)
 
-  pub rule-25 : {i : ℕ} → MapRule b 25 i → Twice b i
-  rule-25 {i} r = go (rule-late r)
-    where
-      go : Late b 25 i → Twice b i
-      go (Late.early le) = absurd (omega arith)
-      go (Late.namesNone e _ _) = absurd (omega arith)
-      go (Late.namedTwice e j c l k lt m n) = (j, c, l, k, lt, m, n)
-      go (Late.unmapped e _ _) = absurd (omega arith)
+  pub rule-25 : MapRule b 25 i → Twice b i
+  rule-25 (MapRule.namedTwice _ j c l k lt m n) = (j, c, l, k, lt, m, n)
 
-  pub rule-26 : {i : ℕ} → MapRule b 26 i → Cpu b i × ((j : ℕ) → Leaf b j → Names b j i → ⊥)
-  rule-26 {i} r = go (rule-late r)
-    where
-      go : Late b 26 i → Cpu b i × ((j : ℕ) → Leaf b j → Names b j i → ⊥)
-      go (Late.early le) = absurd (omega arith)
-      go (Late.namesNone e _ _) = absurd (omega arith)
-      go (Late.namedTwice e _ _ _ _ _ _ _) = absurd (omega arith)
-      go (Late.unmapped e cpu none) = (cpu, none)
+  pub rule-26 : MapRule b 26 i → Cpu b i × ((j : ℕ) → Leaf b j → Names b j i → ⊥)
+  rule-26 (MapRule.unmapped _ cpu none) = (cpu, none)
 
-module _ {b : Board} (typed : Typed b) (well : WellFormed b) (no17 : (p : ℕ) → CpuRule b 17 p → ⊥) {m : ℕ} (is-map : Map b m) where
+module _ {b : Board} (typed : Typed b) (well : WellFormed b) (handles : SoundPhandles b) {m : ℕ} (is-map : Map b m) where
   abbrev t : Tree
   t = treeAt b m
 
@@ -88,13 +49,13 @@ module _ {b : Board} (typed : Typed b) (well : WellFormed b) (no17 : (p : ℕ) �
   repeat-tested i clean = go (isLeaf t i) refl (namedBelow t i (cpuOf t i)) refl
     where
       found : (j : ℕ) → Leaf b j → j ≤ i → isLeaf t j ≡ true
-      found j l le = leaf-check typed well no17 is-map j l (clean j le)
+      found j l le = leaf-check typed well handles is-map j l (clean j le)
 
       broken : isLeaf t i ≡ true → namedBelow t i (cpuOf t i) ≡ true → MapRule b 25 i
       broken h e =
           let w = named-by t i (cpuOf t i) e in
-          let here = check-leaf typed well no17 is-map i h in
-          let there = check-leaf typed well no17 is-map (w .0) (w .2) in
+          let here = check-leaf typed well handles is-map i h in
+          let there = check-leaf typed well handles is-map (w .0) (w .2) in
           MapRule.namedTwice i (w .0) (cpuAt b (cpuOf t i)) (here .0) (there .0) (w .1) (here .1) (rw (w .3) at (there .1))
 
       named-twice : MapRule b 25 i → (isLeaf t i ≡ true) × (namedBelow t i (cpuOf t i) ≡ true)
@@ -103,7 +64,7 @@ module _ {b : Board} (typed : Typed b) (well : WellFormed b) (no17 : (p : ℕ) �
           let lt = w .4 in
           let li = found i (w .2) (omega arith) in
           let lj = found (w .0) (w .3) (omega arith) in
-          let same : cpuOf t (w .0) ≡ cpuOf t i = names-cpu typed well no17 is-map (w .0) (w .1) lj (w .6) ∙ sym (names-cpu typed well no17 is-map i (w .1) li (w .5)) in
+          let same : cpuOf t (w .0) ≡ cpuOf t i = names-cpu typed well handles is-map (w .0) (w .1) lj (w .6) ∙ sym (names-cpu typed well handles is-map i (w .1) li (w .5)) in
           (li, rw same at (named-at t i (w .0) lt lj))
 
       go : (l : Bool) → isLeaf t i ≡ l → (s : Bool) → namedBelow t i (cpuOf t i) ≡ s → Tested 25 (MapRule b 25 i) (repeatFault t i)
@@ -115,7 +76,7 @@ module _ {b : Board} (typed : Typed b) (well : WellFormed b) (no17 : (p : ℕ) �
   pub cpu-named : (c : ℕ) → Cpu b c → namedBelow t (nodeCount (b .nodes)) (cpuIndex b c) ≡ true → (i : ℕ) × Leaf b i × Names b i c
   cpu-named c cpu e =
       let w = named-by t (nodeCount (b .nodes)) (cpuIndex b c) e in
-      let s = check-leaf typed well no17 is-map (w .0) (w .2) in
+      let s = check-leaf typed well handles is-map (w .0) (w .2) in
       (w .0, s .0, rw (w .3, cpu-index well c cpu .1) at (s .1))
 
   -- .. and any other is not, where the check answers nothing
@@ -123,18 +84,23 @@ module _ {b : Board} (typed : Typed b) (well : WellFormed b) (no17 : (p : ℕ) �
     pub cpu-unnamed : (c : ℕ) → namedBelow t (nodeCount (b .nodes)) (cpuIndex b c) ≡ false → (i : ℕ) → Leaf b i → Names b i c → ⊥
     cpu-unnamed c e i l n =
         let lt = in-map-inside (leaf-in-map l) in
-        let h = leaf-check typed well no17 is-map i l (clean i lt) in
-        true-false (rw (names-cpu typed well no17 is-map i c h n) at (named-at t (nodeCount (b .nodes)) i lt h)) e
+        let h = leaf-check typed well handles is-map i l (clean i lt) in
+        true-false (rw (names-cpu typed well handles is-map i c h n) at (named-at t (nodeCount (b .nodes)) i lt h)) e
 
     -- rule 26 at record i
-    pub unmapped-tested : (i : ℕ) → Tested 26 (MapRule b 26 i) (unmappedFault t i)
+    pub unmapped-told : (i : ℕ) → Verdict (MapRule b) 26 i (MapRule b 26 i → ⊥) (unmappedFault t i)
     unfolding unmappedFault
-    unmapped-tested i = go (isCpu (b .nodes) (b .pool) i) refl (namedBelow t (nodeCount (b .nodes)) (cpuIndex b i)) refl
+    unmapped-told i = go (isCpu (b .nodes) (b .pool) i) refl (namedBelow t (nodeCount (b .nodes)) (cpuIndex b i)) refl
       where
         kept : namedBelow t (nodeCount (b .nodes)) (cpuIndex b i) ≡ true → MapRule b 26 i → ⊥
         kept e r = let w = rule-26 r in let s = cpu-named i (w .0) e in w .1 (s .0) (s .1) (s .2)
 
-        go : (l : Bool) → isCpu (b .nodes) (b .pool) i ≡ l → (s : Bool) → namedBelow t (nodeCount (b .nodes)) (cpuIndex b i) ≡ s → Tested 26 (MapRule b 26 i) (cond l (cond s 0 26) 0)
-        go true e true f = Tested.sound (kept f)
-        go true e false f = Tested.broken (MapRule.unmapped i (cpu-test well i .0 e) (cpu-unnamed i f))
-        go false e s f = Tested.sound (λ r. true-false (cpu-test well i .1 (rule-26 r .0)) e)
+        go :
+            (l : Bool) →
+            isCpu (b .nodes) (b .pool) i ≡ l →
+            (s : Bool) →
+            namedBelow t (nodeCount (b .nodes)) (cpuIndex b i) ≡ s →
+            Verdict (MapRule b) 26 i (MapRule b 26 i → ⊥) (cond l (cond s 0 26) 0)
+        go true e true f = Verdict.sound (kept f)
+        go true e false f = Verdict.broken (MapRule.unmapped i (cpu-test well i .0 e) (cpu-unnamed i f))
+        go false e s f = Verdict.sound (λ r. true-false (cpu-test well i .1 (rule-26 r .0)) e)

@@ -6,7 +6,6 @@ pub mod LeafCount
 pub mod LeafMeans
 pub mod CheckLeaf
 pub mod LeafRules
-pub mod RuleStages
 pub mod TreeLeast
 pub mod TreeTells
 pub mod TreeGives

@@ -7,7 +7,7 @@ use Rattle.laws.proofs.IndexLaws.{index-of, index-unique, getD-map-lt}
 use Rattle.tables.specs.Board.{Board, Typed, nodeCount}
 use Rattle.wellformed.specs.Rules.{WellFormed}
 use Rattle.cpus.specs.Node.{Cpu, Phandle}
-use Rattle.cpus.specs.Rules.{maxCpus, CpuRule, SoundCpus}
+use Rattle.cpus.specs.Rules.{maxCpus, SoundCpus, SoundPhandles}
 use Rattle.cpus.specs.Check.{isCpu, cpuList, phandleReadings, phandleList}
 use Rattle.cpus.proofs.CpuMeans.{cpu-test, cpu-listing, cpu-count}
 use Rattle.cpus.proofs.CpuGives.{count-range, cpu-phandle, phandle-distinct}
@@ -42,14 +42,14 @@ module _ {b : Board} (typed : Typed b) (well : WellFormed b) where
   pub few-phandles : SoundCpus b → length (phandleList b) ≤ maxCpus
   few-phandles sound = rw (phandle-count b, ← cpu-count b) (count-range typed well sound .1)
 
-  module _ (no17 : (p : ℕ) → CpuRule b 17 p → ⊥) where
+  module _ (handles : SoundPhandles b) where
     number-at : (k : ℕ) → k < length (cpuList b) → getD (phandleList b) k 0 ≡ phandleNumber b (cpuAt b k)
     number-at k lt = getD-map-lt (phandleNumber b) (cpuList b) k lt
 
     pub phandle-at : (k : ℕ) → k < length (cpuList b) → Phandle b (cpuAt b k) (getD (phandleList b) k 0)
-    phandle-at k lt = rw (number-at k lt) (cpu-phandle typed well no17 (index-cpu well k lt))
+    phandle-at k lt = rw (number-at k lt) (cpu-phandle typed well handles (index-cpu well k lt))
 
     -- different cpu records have different phandles
     pub index-apart : (j k : ℕ) → j < length (cpuList b) → k < length (cpuList b) → getD (phandleList b) j 0 ≡ getD (phandleList b) k 0 → j ≡ k
     index-apart j k lj lk e =
-        index-unique (cpu-listing well) j k lj lk (phandle-distinct typed well no17 (index-cpu well j lj) (index-cpu well k lk) (sym (number-at j lj) ∙ e ∙ number-at k lk))
+        index-unique (cpu-listing well) j k lj lk (phandle-distinct typed well handles (index-cpu well j lj) (index-cpu well k lk) (sym (number-at j lj) ∙ e ∙ number-at k lk))

@@ -11,8 +11,9 @@ use Rattle.laws.proofs.DecideLaws.{eq-decides, holds-unless}
 use Rattle.laws.proofs.LeastLaws.{Tested, Least, least-one, least-then}
 use Rattle.laws.proofs.LeastStageLaws.{least-told, least-longer, least-lower}
 use Rattle.tables.specs.Board.{Board, Typed, nodeCount}
+use Rattle.wellformed.specs.Order.{stage}
 use Rattle.wellformed.specs.Rules.{WellFormed}
-use Rattle.cpus.specs.Rules.{CpuRule, SoundCpus}
+use Rattle.cpus.specs.Rules.{SoundCpus, SoundPhandles}
 use Rattle.leaves.specs.declared.RecordCheck.{RecordCheck}
 use Rattle.cpumap.specs.Map.{Map, InMap, Leaf}
 use Rattle.topology.specs.Rules.{MapRule}
@@ -20,24 +21,23 @@ use Rattle.topology.specs.Check.{groupFault}
 use Rattle.leaves.specs.Scan.{Tree, treeAt, check, repeatFault, treeFault}
 use Rattle.cpumap.proofs.NameFacts.{root-nameless}
 use Rattle.cpumap.proofs.MapMeans.{outside-is}
+use Rattle.topology.proofs.RuleCases.{staged, tree-stage}
 use Rattle.topology.proofs.RecordMeans.{record-told}
 use Rattle.topology.proofs.PlaceMeans.{root-told, below-told, map-told, outside-told}
 use Rattle.leaves.proofs.CheckCases.{shapeNumber, strayNumber, leafName, named, Answers, answers-fault, Under, Checked, checked, check-shape, fault-check, check-fault}
 use Rattle.leaves.proofs.LeafMeans.{index-names, names-none}
 use Rattle.leaves.proofs.CheckLeaf.{name-leaf, leaf-name, under-in-map, in-map-under}
-use Rattle.leaves.proofs.LeafRules.{Late, rule-late, rule-24, repeat-tested}
+use Rattle.leaves.proofs.LeafRules.{rule-24, rule-25, repeat-tested}
 
 -- rules 24 and 25 are broken by leaves only
 no-leaf-rule : {b : Board} {i n : ℕ} → (Leaf b i → ⊥) → MapRule b n i → 23 < n → n ≤ 25 → ⊥
-no-leaf-rule {b} {i} {n} none r l h = go (rule-late r)
-  where
-    go : Late b n i → ⊥
-    go (Late.early le) = omega arith
-    go (Late.namesNone _ leaf _) = none leaf
-    go (Late.namedTwice _ _ _ leaf _ _ _ _) = none leaf
-    go (Late.unmapped e _ _) = omega arith
+no-leaf-rule {n = n} none r l h =
+    ⊎-elim
+    (λ e. none (rule-24 (rw (← e) at r) .0))
+    (λ lt. let e : n ≡ 25 = omega arith in none (rule-25 (rw e at r) .2))
+    (eq-or-lt-of-le l)
 
-module _ {b : Board} (typed : Typed b) (well : WellFormed b) (sound : SoundCpus b) (no17 : (p : ℕ) → CpuRule b 17 p → ⊥) {m : ℕ} (is-map : Map b m) where
+module _ {b : Board} (typed : Typed b) (well : WellFormed b) (sound : SoundCpus b) (handles : SoundPhandles b) {m : ℕ} (is-map : Map b m) where
   abbrev t : Tree
   t = treeAt b m
 
@@ -74,14 +74,14 @@ module _ {b : Board} (typed : Typed b) (well : WellFormed b) (sound : SoundCpus 
           from-18 (least-told (omega arith) (least-then Rule 19 23 24 0 24 (omega arith) (omega arith) (rw z at shapes) (least-one Rule 24 (omega arith) (Tested.broken broken))) (λ q. omega arith))
         where
           broken : MapRule b 24 i
-          broken = MapRule.namesNone i (name-leaf well i in-map f) (names-none typed well no17 i le)
+          broken = MapRule.namesNone i (name-leaf well i in-map f) (names-none typed well handles i le)
 
       leaf-told : shapeNumber t i ≡ 0 → named t i < length (t .phandles) → check t i .number ≡ 0 → Told (repeatFault t i)
       leaf-told z lt e =
           from-18
           (least-then Rule 19 24 25 0 (repeatFault t i) (omega arith) (omega arith)
-          (least-then Rule 19 23 24 0 0 (omega arith) (omega arith) (rw z at shapes) (least-one Rule 24 (omega arith) (Tested.sound (λ r. rule-24 r .1 _ (index-names typed well no17 i lt)))))
-          (least-one Rule 25 (omega arith) (repeat-tested typed well no17 is-map i checks)))
+          (least-then Rule 19 23 24 0 0 (omega arith) (omega arith) (rw z at shapes) (least-one Rule 24 (omega arith) (Tested.sound (λ r. rule-24 r .1 _ (index-names typed well handles i lt)))))
+          (least-one Rule 25 (omega arith) (repeat-tested typed well handles is-map i checks)))
         where
           checks : (k : ℕ) → k ≤ i → check t k .number ≡ 0
           checks k le = ⊎-elim (λ q. rw q e) (earlier k) (eq-or-lt-of-le le)
@@ -102,18 +102,18 @@ module _ {b : Board} (typed : Typed b) (well : WellFormed b) (sound : SoundCpus 
         go (Checked.nameless u z f le a) = answer 24 a (nameless-told u z f le)
         go (Checked.leaf u z f k a) = let e = ap (λ (r : RecordCheck). r .number) a in rw (check-fault t i e) (leaf-told u z k e)
 
-  -- so nothing is told where none of rules 18 to 25 is broken
-  pub sound-faults : ((n p : ℕ) → MapRule b n p → 18 ≤ n → n ≤ 25 → ⊥) → (k : ℕ) → k < count → treeFault t k ≡ 0
+  -- so nothing is told where no rule of the stage is broken
+  pub sound-faults : ((n p : ℕ) → MapRule b n p → stage n ≡ stage 18 → ⊥) → (k : ℕ) → k < count → treeFault t k ≡ 0
   sound-faults none k = up-to (suc k) k (omega arith)
     where
       next : (n : ℕ) → ((k : ℕ) → k < n → k < count → treeFault t k ≡ 0) → n < count → treeFault t n ≡ 0
       next n below lt =
           holds-unless (eq-decides (treeFault t n) 0)
-          (λ ne. let w = tree-least n (λ k l. below k l (omega arith)) lt .sound ne in none _ n (w .0) (w .1) (w .2))
+          (λ ne. let w = tree-least n (λ k l. below k l (omega arith)) lt .sound ne in none _ n (w .0) (tree-stage (staged (w .0)) (w .1) (w .2) .0))
 
       up-to : (n k : ℕ) → k < n → k < count → treeFault t k ≡ 0
       up-to zero k l = absurd (omega arith)
       up-to (suc n) k l = below-suc {P = λ k. k < count → treeFault t k ≡ 0} n (up-to n) (next n (up-to n)) k l
 
-  pub sound-checks : ((n p : ℕ) → MapRule b n p → 18 ≤ n → n ≤ 25 → ⊥) → (k : ℕ) → k < count → check t k .number ≡ 0
+  pub sound-checks : ((n p : ℕ) → MapRule b n p → stage n ≡ stage 18 → ⊥) → (k : ℕ) → k < count → check t k .number ≡ 0
   sound-checks none k lt = fault-check t k (sound-faults none k lt)

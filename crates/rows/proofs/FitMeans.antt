@@ -17,7 +17,7 @@ use Rattle.cpus.proofs.CpuGives.{cpu-reg}
 use Rattle.cpumap.specs.Map.{Map, Leaf, Names}
 use Rattle.topology.specs.Rules.{MapRule}
 use Rattle.leaves.specs.Scan.{leavesOf}
-use Rattle.leaves.proofs.CheckLeaf.{leaf-in-map, in-map-inside}
+use Rattle.cpumap.proofs.MapMeans.{leaf-in-map, in-map-inside}
 use Rattle.rows.specs.Row.{rowOf}
 use Rattle.rows.specs.Write.{rowsBelow, sourceOf}
 use Rattle.rows.specs.Fits.{RowFits, Fits}

@@ -17,13 +17,13 @@ use Rattle.names.proofs.NameMeans.{named-unique}
 use Rattle.tables.specs.Board.{Board, Typed, nodeName}
 use Rattle.wellformed.specs.Rules.{WellFormed}
 use Rattle.tables.proofs.DepthLaws.{child-unique}
-use Rattle.cpus.specs.Rules.{CpuRule, SoundCpus}
+use Rattle.cpus.specs.Rules.{SoundCpus, SoundPhandles}
 use Rattle.cpus.proofs.RegMeans.{reg-unique}
 use Rattle.cpumap.specs.Map.{InMap, Is, Leaf}
 use Rattle.topology.specs.Rules.{MapRule}
 use Rattle.cpumap.proofs.NameFacts.{kinds-apart}
 use Rattle.leaves.proofs.LeafMeans.{names-unique}
-use Rattle.leaves.proofs.CheckLeaf.{leaf-in-map}
+use Rattle.cpumap.proofs.MapMeans.{leaf-in-map}
 use Rattle.rows.specs.Fits.{Mpidrs, SocketWord, CoreWord, ThreadWord, SlotWord, RowFits, Fits}
 use Rattle.rows.proofs.ShapeLaws.{socket-unique}
 use Rattle.rows.proofs.WordMeans.{cluster-word-only}
@@ -69,7 +69,7 @@ module _
     (typed : Typed b)
     (well : WellFormed b)
     (sound : SoundCpus b)
-    (no17 : (p : ℕ) → CpuRule b 17 p → ⊥)
+    (handles : SoundPhandles b)
     (kept : (n p : ℕ) → MapRule b n p → ⊥)
   where
     -- the socket
@@ -90,7 +90,7 @@ module _
         (slot-word-unique well (rw (reg .0, reg .1) at (h .slot)) (g .slot))
       where
         cpu : rowCpu r ≡ rowCpu s
-        cpu = names-unique typed well no17 leaf (rowCpu r) (rowCpu s) (h .cpu) (g .cpu)
+        cpu = names-unique typed well handles leaf (rowCpu r) (rowCpu s) (h .cpu) (g .cpu)
 
         reg : (rowUpper r ≡ rowUpper s) × (rowLower r ≡ rowLower s)
         reg = reg-unique well (rw cpu at (h .reg)) (g .reg)

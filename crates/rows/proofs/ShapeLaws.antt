@@ -9,16 +9,12 @@ use Rattle.tables.specs.Board.{Board, parentWord}
 use Rattle.tables.specs.Tree.{Child, Ancestor}
 use Rattle.wellformed.specs.Rules.{WellFormed}
 use Rattle.tables.proofs.DepthLaws.{ancestor-earlier, ancestor-cases, ancestor-chain}
-use Rattle.cpus.specs.Rules.{CpuRule, SoundCpus}
+use Rattle.cpus.specs.Rules.{SoundCpus}
 use Rattle.cpumap.specs.Map.{Map, InMap, Is}
 use Rattle.topology.specs.Rules.{MapRule, Allowed}
-use Rattle.cpumap.proofs.NameFacts.{cpus-nameless, map-nameless}
+use Rattle.cpumap.proofs.NameFacts.{root-nameless, map-nameless}
 use Rattle.cpumap.proofs.MapMeans.{map-unique}
 use Rattle.topology.proofs.KindMeans.{parent-of, allowed-test}
-
--- record 0, `cpus`, has no kind
-pub root-nameless : {b : Board} → SoundCpus b → (kind : Kind) → Is b kind 0 → ⊥
-root-nameless {b} sound kind s = sound 9 0 (CpuRule.notCpus (λ e. cpus-nameless b 0 e kind s)) (omega arith)
 
 -- what the parent of a record of a kind is
 abbrev pub Under : Board → ℕ → Kind → Type 0
@@ -58,7 +54,7 @@ module _ (b : Board) (well : WellFormed b) (m : ℕ) (the-map : Map b m) (sound 
       not-above : Ancestor (b .nodes) a (h .root) → ⊥
       not-above u =
           ⊎-elim
-          (λ e. root-nameless sound kind (rw e at s))
+          (λ e. root-nameless b sound kind (rw e at s))
           (λ v. let l = ancestor-earlier v in absurd (omega arith))
           (ancestor-cases u (h .is-map .child))
 

@@ -14,7 +14,7 @@ use Rattle.affinity.proofs.SlotLaws.{slot-guarded}
 use Rattle.affinity.proofs.HashMeans.{hash-is}
 use Rattle.tables.specs.Board.{Board, Typed}
 use Rattle.wellformed.specs.Rules.{WellFormed}
-use Rattle.cpus.specs.Rules.{CpuRule, SoundCpus}
+use Rattle.cpus.specs.Rules.{SoundCpus, SoundPhandles}
 use Rattle.cpus.specs.Check.{cpuCount, cpuList, mpidrAt, mpidrList}
 use Rattle.cpus.proofs.CpuMeans.{cpu-listing, cpu-count}
 use Rattle.cpus.proofs.RegMeans.{reg-affine}
@@ -59,7 +59,7 @@ module _
     (typed : Typed b)
     (well : WellFormed b)
     (sound : SoundCpus b)
-    (no17 : (p : ℕ) → CpuRule b 17 p → ⊥)
+    (handles : SoundPhandles b)
     {m : ℕ}
     (the-map : Map b m)
     (kept : (n p : ℕ) → MapRule b n p → ⊥)
@@ -67,18 +67,15 @@ module _
     pub leaf-facts : LeafFacts b
     leaf-facts =
         record {
-          listing = leaf-listing typed well sound no17 found later;
-          index = leaf-cpu typed well sound no17 found later;
-          names = leaf-names typed well sound no17 found later;
-          apart = leaves-apart typed well sound no17 found later;
-          count = same-count typed well sound no17 found later;
+          listing = leaf-listing typed well sound handles found kept;
+          index = leaf-cpu typed well sound handles found kept;
+          names = leaf-names typed well sound handles found kept;
+          apart = leaves-apart typed well sound handles found kept;
+          count = same-count typed well sound handles found kept;
         }
       where
         found : Map b (mapOf (b .nodes) (b .pool))
         found = map-of b well (map-found b well m the-map)
-
-        later : (n p : ℕ) → MapRule b n p → 18 ≤ n → ⊥
-        later n p r _ = kept n p r
 
     -- one row for each cpu record
     pub leaf-count : leafCount b ≡ cpuCount b

@@ -14,14 +14,14 @@ use Rattle.cpumap.specs.Map.{Map, Is, Leaf}
 use Rattle.topology.specs.Rules.{MapRule}
 use Rattle.cpumap.specs.Path.{topologyName, clusterPath, socketNumber}
 use Rattle.cpumap.specs.Number.{kindNumber}
-use Rattle.cpumap.proofs.NameFacts.{kinds-apart, topology-is}
+use Rattle.cpumap.proofs.NameFacts.{root-nameless, kinds-apart, topology-is}
 use Rattle.topology.proofs.KindMeans.{parent-of}
 use Rattle.cpumap.proofs.PathWords.{PathWord, cluster-above, above-cluster, path-word, path-word-only}
 use Rattle.cpumap.proofs.SocketMeans as sockets
-use Rattle.leaves.proofs.CheckLeaf.{leaf-in-map, in-map-inside}
+use Rattle.cpumap.proofs.MapMeans.{leaf-in-map, in-map-inside}
 use Rattle.rows.specs.Row.{coreOf, threadOf}
 use Rattle.rows.specs.Fits.{SocketWord, ClusterWord, CoreWord, ThreadWord}
-use Rattle.rows.proofs.ShapeLaws.{root-nameless, parent-kind}
+use Rattle.rows.proofs.ShapeLaws.{parent-kind}
 
 -- a leaf is a core or a thread
 leaf-kind : {b : Board} {leaf : ℕ} → Leaf b leaf → Is b Kind.core leaf ⊎ Is b Kind.thread leaf
@@ -38,7 +38,7 @@ leaf-inside l = in-map-inside (leaf-in-map l)
 module _ {b : Board} (well : WellFormed b) (sound : SoundCpus b) where
   -- the socket
   pub socket-word : {leaf : ℕ} → Leaf b leaf → SocketWord b leaf (socketNumber (b .nodes) (b .pool) leaf)
-  socket-word {leaf} l = go (sockets.socket-word b well (root-nameless sound) leaf (leaf-inside l))
+  socket-word {leaf} l = go (sockets.socket-word b well (root-nameless b sound) leaf (leaf-inside l))
     where
       go : {v : ℕ} → sockets.SocketWithin b leaf v → SocketWord b leaf v
       go (sockets.SocketWithin.inSocket s n (inl e) h near) = absurd (leaf-not b leaf Kind.socket (omega arith) l (n, rw e at h))
@@ -54,14 +54,14 @@ module _ {b : Board} (well : WellFormed b) (sound : SoundCpus b) where
     pathNumber = getD (clusterPath (b .nodes) (b .pool) leaf .numbers) d 0
 
     pub cluster-word : ClusterWord b leaf d pathNumber
-    cluster-word = go (path-word b well (root-nameless sound) leaf (leaf-inside l) d lt)
+    cluster-word = go (path-word b well (root-nameless b sound) leaf (leaf-inside l) d lt)
       where
         go : {v : ℕ} → PathWord b leaf d v → ClusterWord b leaf d v
         go (PathWord.inCluster c n above t h listing e) = ClusterWord.inCluster c n above (cluster-above b leaf not-cluster c t) h listing e
         go (PathWord.noCluster none) = ClusterWord.noCluster (λ c above t. none c above (above-cluster b leaf not-cluster c t))
 
     pub cluster-word-only : {v : ℕ} → ClusterWord b leaf d v → v ≡ pathNumber
-    cluster-word-only {v} w = path-word-only b well (root-nameless sound) leaf (leaf-inside l) d v lt (go w)
+    cluster-word-only {v} w = path-word-only b well (root-nameless b sound) leaf (leaf-inside l) d v lt (go w)
       where
         go : {v : ℕ} → ClusterWord b leaf d v → PathWord b leaf d v
         go (ClusterWord.inCluster c n above t h listing e) = PathWord.inCluster c n above (above-cluster b leaf not-cluster c t) h listing e

@@ -31,7 +31,6 @@ use Rattle.topology.specs.Rules.{MapRule, Allowed}
 use Rattle.cpumap.specs.Number.{kindNumber}
 use Rattle.topology.specs.Check.{allowedUnder, allowedInMap, kindFault, numberFault, shapeFault, mapRecordFault}
 use Rattle.cpumap.proofs.NameFacts.{Says, topology-says, topology-is, topology-cases, is-unique, kinds-apart, kind-number-same, kind-number-of, kind-number-some, map-nameless}
-use Rattle.topology.proofs.RuleCases.{WrongKind, MixedKinds, rule-means}
 use Rattle.cpumap.proofs.MapMeans.{map-unique, in-map-below}
 use Rattle.cpumap.proofs.WithinMeans.{child-has, within-above, above-within}
 
@@ -209,20 +208,13 @@ module _ (b : Board) (well : WellFormed b) (m : ℕ) (map : Map b m) where
               apart e = ne (kind-number-of kind n (t .1) ∙ ap (λ (j : Kind). kindNumber (answered j (t .1))) e ∙ sym (first-kind (t .0) (t .1) (t .2)))
 
       mixed-sound : SameKind → MapRule b 20 i → ⊥
-      mixed-sound same r = ⊎-elim wrong mixed (rule-means r)
-        where
-          wrong : WrongKind b i → ⊥
-          wrong w = w .not-allowed (rw (child-unique child (w .child), is-unique b i kind (w .kind) (n, named) (w .is)) at allowed)
-
-          mixed : MixedKinds b i → ⊥
-          mixed w =
-              let e = child-unique (w .child) child in
-              let le = w .first-child .lowest (suc over) (rw e next) in
-              let lt = w .first-child .child .earlier in
-              let place : w .first ≡ suc over = omega arith in
-              let f = w .first-is in
-              let k : kind ≡ w .first-kind = kind-number-same kind (w .first-kind) n (f .0) (same ∙ first-kind (w .first-kind) (f .0) (rw place at (f .1))) in
-              w .differ (is-unique b i (w .kind) kind (w .is) (n, named) ∙ k)
+      mixed-sound same (MapRule.wrongKind _ p k _ c is none) = none (rw (child-unique child c, is-unique b i kind k (n, named) is) at allowed)
+      mixed-sound same (MapRule.mixedKinds _ p f k j _ _ c fc is fis ne) =
+          let le = fc .lowest (suc over) (rw (child-unique c child) next) in
+          let lt = fc .child .earlier in
+          let e = child-unique c child in
+          let place : f ≡ suc over = omega arith in
+          ne (is-unique b i k kind is (n, named) ∙ kind-number-same kind j n (fis .0) (same ∙ first-kind j (fis .0) (rw place at (fis .1))))
 
     pub kind-tested : (kind : Kind) (n : ℕ) → Named (nodeName b i) kind n → Tested 20 (MapRule b 20 i) (kindFault (b .nodes) (b .pool) m over (answered kind n))
     unfolding kindFault

@@ -17,26 +17,12 @@ use Rattle.topology.specs.Rules.{MapRule}
 use Rattle.cpumap.specs.Number.{kindNumber}
 use Rattle.topology.specs.Check.{groupFault}
 use Rattle.cpumap.proofs.NameFacts.{kind-number-zero, topology-other, topology-cases}
-use Rattle.topology.proofs.RuleCases.{Group, rule-group}
+use Rattle.topology.proofs.RuleCases.{Place, staged, tree-stage}
 use Rattle.cpumap.proofs.MapMeans.{map-unique, map-not-below, in-map-later, outside-not-map, outside-not-below}
 use Rattle.topology.proofs.RecordMeans.{group-tested}
 
--- which of the records that rules 18 to 25 speak of a record is
-data Place (b : Board) (n i : ℕ) : Type 0 where
-  outside : n ≡ 18 → (kind : Kind) → 0 < i → Outside b i → Is b kind i → Place b n i
-  theMap : n ≡ 23 → Map b i → Place b n i
-  inMap : 19 ≤ n → InMap b i → Place b n i
-
 place : {b : Board} {n i : ℕ} → MapRule b n i → 18 ≤ n → n ≤ 25 → Place b n i
-place {b} {n} {i} r low high = go (rule-group r)
-  where
-    go : Group b n i → Place b n i
-    go (Group.noMap e _ _) = absurd (omega arith)
-    go (Group.secondMap e _ _ _ _ _) = absurd (omega arith)
-    go (Group.stray e kind pos _ out is) = Place.outside e kind pos out is
-    go (Group.emptyMap e map _) = Place.theMap e map
-    go (Group.inMap l _ _ t) = Place.inMap l t
-    go (Group.unmapped e) = absurd (omega arith)
+place r low high = tree-stage (staged r) low high .1
 
 module _ (b : Board) (m : ℕ) (map : Map b m) where
   -- record 0 breaks none of them
@@ -44,18 +30,18 @@ module _ (b : Board) (m : ℕ) (map : Map b m) where
   root-told = least-none (λ n. MapRule b n 0) 18 25 (λ n r low high. go (place r low high))
     where
       go : {n : ℕ} → Place b n 0 → ⊥
-      go (Place.outside _ _ pos _ _) = omega arith
+      go (Place.outside _ _ pos _ _ _) = omega arith
       go (Place.theMap _ s) = omega (arith, s .child .earlier)
-      go (Place.inMap _ t) = omega (arith, in-map-later b m map 0 t)
+      go (Place.inMap _ _ t) = omega (arith, in-map-later b m map 0 t)
 
   -- a record below the map does not break rule 18
   pub below-told : (n i : ℕ) → InMap b i → MapRule b n i → 18 ≤ n → n ≤ 25 → 19 ≤ n
   below-told n i t r low high = go (place r low high)
     where
       go : Place b n i → 19 ≤ n
-      go (Place.outside _ _ _ out _) = absurd (outside-not-below b m map i out t)
+      go (Place.outside _ _ _ _ out _) = absurd (outside-not-below b m map i out t)
       go (Place.theMap e _) = omega arith
-      go (Place.inMap l _) = l
+      go (Place.inMap l _ _) = l
 
 module _ (b : Board) (well : WellFormed b) (m : ℕ) (map : Map b m) where
   -- the map can break rule 23 alone
@@ -64,9 +50,9 @@ module _ (b : Board) (well : WellFormed b) (m : ℕ) (map : Map b m) where
       least-only (λ n. MapRule b n m) 23 18 25 (omega arith) (omega arith) (omega arith) (λ n r low high. go (place r low high)) (group-tested b well m (MapRule.emptyMap m map))
     where
       go : {n : ℕ} → Place b n m → n ≡ 23
-      go (Place.outside _ _ _ out _) = absurd (outside-not-map b m map m out refl)
+      go (Place.outside _ _ _ _ out _) = absurd (outside-not-map b m map m out refl)
       go (Place.theMap e _) = e
-      go (Place.inMap _ t) = absurd (map-not-below b m map t)
+      go (Place.inMap _ _ t) = absurd (map-not-below b m map t)
 
   -- a record outside the map can break rule 18 alone
   pub outside-told : (i : ℕ) → 0 < i → i < nodeCount (b .nodes) → Outside b i → Least (λ n. MapRule b n i) 18 25 (cond (eqb (kindNumber (topologyName (b .nodes) (b .pool) i)) 0) 0 18)
@@ -75,17 +61,12 @@ module _ (b : Board) (well : WellFormed b) (m : ℕ) (map : Map b m) where
       (tested-unless keeps breaks (eq-decides (kindNumber (topologyName (b .nodes) (b .pool) i)) 0))
     where
       go : {n : ℕ} → Place b n i → n ≡ 18
-      go (Place.outside e _ _ _ _) = e
+      go (Place.outside e _ _ _ _ _) = e
       go (Place.theMap _ s) = absurd (outside-not-map b m map i out (map-unique b i m s map))
-      go (Place.inMap _ t) = absurd (outside-not-below b m map i out t)
+      go (Place.inMap _ _ t) = absurd (outside-not-below b m map i out t)
 
       keeps : kindNumber (topologyName (b .nodes) (b .pool) i) ≡ 0 → MapRule b 18 i → ⊥
-      keeps z r = named (place r (omega arith) (omega arith))
-        where
-          named : Place b 18 i → ⊥
-          named (Place.outside _ kind _ _ is) = topology-other b well i lt .0 (kind-number-zero _ z) kind is
-          named (Place.theMap e _) = omega arith
-          named (Place.inMap l _) = omega arith
+      keeps z (MapRule.strayName _ kind _ _ _ is) = topology-other b well i lt .0 (kind-number-zero _ z) kind is
 
       breaks : (kindNumber (topologyName (b .nodes) (b .pool) i) ≡ 0 → ⊥) → MapRule b 18 i
       breaks ne =

@@ -31,7 +31,7 @@ use Rattle.cpumap.specs.Number.{kindNumber, topologyNumber}
 use Rattle.topology.specs.Check.{groupFault, depthFault, numberFault, shapeFault, mapRecordFault}
 use Rattle.topology.proofs.ChildMeans.{earlier-children, earlier-count, has-child-test}
 use Rattle.cpumap.proofs.NameFacts.{topology-cases, kinds-apart, number-answered}
-use Rattle.topology.proofs.RuleCases.{WrongNumber, DeepCluster, rule-means}
+use Rattle.topology.proofs.RuleCases.{deep-cluster, childless}
 use Rattle.cpumap.proofs.MapMeans.{in-map-below, map-not-below}
 use Rattle.cpumap.proofs.PathMeans.{clusterList, clusters-listing, depth-below}
 use Rattle.topology.proofs.KindMeans.{parent-of, fault-named, kind-tested}
@@ -40,7 +40,7 @@ use Rattle.topology.proofs.KindMeans.{parent-of, fault-named, kind-test
 pub group-tested : (b : Board) (well : WellFormed b) (i : ℕ) → (Childless b i → MapRule b 23 i) → Tested 23 (MapRule b 23 i) (groupFault (b .nodes) i)
 group-tested b well i breaks =
     tested-unless
-    (λ t (r : MapRule b 23 i). rule-means r .0 (t .0) (t .1))
+    (λ t (r : MapRule b 23 i). childless r .0 (t .0) (t .1))
     (λ none. breaks (λ j c. none (j, c)))
     (has-child-test (b .nodes) (wf-depth well) i)
 
@@ -74,12 +74,9 @@ module _
         count = countBelow (isChild (b .nodes) over) i
 
         keeps : topologyNumber (answered kind n) ≡ count → Rule 21 → ⊥
-        keeps e r = wrong (rule-means r)
-          where
-            wrong : WrongNumber b i → ⊥
-            wrong w =
-                let size : count ≡ length (w .earlier) = earlier-count (b .nodes) over i (w .earlier) (rw (child-unique (w .child) child) at (w .listing)) in
-                w .differ (named-unique (w .name) named .1 ∙ sym (number-answered kind n) ∙ e ∙ size)
+        keeps e (MapRule.wrongNumber _ p k j earlier _ c name l ne) =
+            let size : count ≡ length earlier = earlier-count (b .nodes) over i earlier (rw (child-unique c child) at l) in
+            ne (named-unique name named .1 ∙ sym (number-answered kind n) ∙ e ∙ size)
 
         breaks : (topologyNumber (answered kind n) ≡ count → ⊥) → Rule 21
         breaks ne =
@@ -101,22 +98,25 @@ module _
 
     depth-tested : Is b Kind.cluster i → Tested 22 (Rule 22) (depthFault (b .nodes) (b .pool) over)
     unfolding depthFault
-    depth-tested is = tested-unless (λ lt r. deep lt (rule-means r)) breaks (lt-decides depth 4)
+    depth-tested is = tested-unless deep breaks (lt-decides depth 4)
       where
-        deep : depth < 4 → DeepCluster b i → ⊥
-        deep lt w = omega (arith, few .0 lt, rw (listing-unique (w .list) above (w .listing) listing) at (w .many))
+        deep : depth < 4 → Rule 22 → ⊥
+        deep lt (MapRule.deepCluster _ list _ _ l many) = omega (arith, few .0 lt, rw (listing-unique list above l listing) at many)
 
         breaks : (depth < 4 → ⊥) → Rule 22
         breaks n = MapRule.deepCluster i above in-map is listing (⊎-elim (λ lt. lt) (λ le. absurd (n (few .1 le))) (lt-or-le 3 (length above)))
 
     not-deep : (Is b Kind.cluster i → ⊥) → Tested 22 (Rule 22) 0
-    not-deep none = Tested.sound (λ r. none (rule-means r .is))
+    not-deep none = Tested.sound (λ r. none (deep-cluster r))
 
     not-empty : (Is b Kind.socket i → ⊥) → (Is b Kind.cluster i → ⊥) → Tested 23 (Rule 23) 0
-    not-empty no-socket no-cluster = Tested.sound (λ r. ⊎-elim is-map (⊎-elim no-socket no-cluster) (rule-means r .1))
+    not-empty no-socket no-cluster = Tested.sound (λ r. ⊎-elim is-map (⊎-elim no-socket no-cluster) (childless r .1))
       where
         is-map : Map b i → ⊥
         is-map s = map-not-below b i s in-map
+
+    has-name : (kind : Kind) → Is b kind i → Rule 19 → ⊥
+    has-name kind is (MapRule.noTopologyName _ _ none) = none kind is
 
     -- rules 22 and 23
     pair : {v w : ℕ} → Tested 22 (Rule 22) v → Tested 23 (Rule 23) w → Least Rule 22 23 (orNumber v w)
@@ -153,7 +153,7 @@ module _
           faults : (kind : Kind) (n : ℕ) → Named (nodeName b i) kind n → Least Rule 19 23 (mapRecordFault (b .nodes) (b .pool) m i (answered kind n))
           faults kind n q =
               rw (fault-named b well m map i kind n)
-              (least-then Rule 19 19 23 0 _ (omega arith) (omega arith) (least-one Rule 19 (omega arith) (Tested.sound (λ r. rule-means r kind (n, q))))
+              (least-then Rule 19 19 23 0 _ (omega arith) (omega arith) (least-one Rule 19 (omega arith) (Tested.sound (has-name kind (n, q))))
               (least-then Rule 20 20 23 _ _ (omega arith) (omega arith) (least-one Rule 20 (omega arith) (kind-tested b well m map i in-map lower kind n q))
               (least-then Rule 21 21 23 _ _ (omega arith) (omega arith) (least-one Rule 21 (omega arith) (number-tested kind n q)) (shape-least kind n q))))
 

@@ -12,6 +12,7 @@ use Rattle.laws.specs.Search.{anyBelow}
 use Rattle.laws.proofs.SearchLaws.{any-at, any-place, true-false}
 use Rattle.laws.proofs.SameLaws.{same-refl, same-equal}
 use Rattle.laws.proofs.TestLaws.{both-true}
+use Rattle.laws.proofs.VerdictLaws.{Verdict}
 use Rattle.records.specs.Limits.{maxNodeName, maxPropertyName, noParent}
 use Rattle.wellformed.specs.Limits.{maxNodes, maxProperties, maxPool}
 use Rattle.tables.specs.Board.{Board, Inside, nodeCount, parentWord, nameOffset, nameLength, propCount, propNode, propName, keyOffset, keyLength, valueOffset, valueLength}
@@ -26,27 +27,22 @@ data Decides (P Q : Type 0) : Bool → Type 0 where
   holds : P → Decides P Q true
   fails : Q → Decides P Q false
 
--- the number told of a rule n at a place: 0 where P holds, and n where the rule is broken
-pub data Verdict (b : Board) (n q : ℕ) (P : Type 0) : ℕ → Type 0 where
-  sound : P → Verdict b n q P 0
-  broken : TableRule b n q → Verdict b n q P n
-
 -- the number told of two rules at a place, m before n
 pub data Verdicts (b : Board) (m n q : ℕ) (P Q : Type 0) : ℕ → Type 0 where
   first : TableRule b m q → Verdicts b m n q P Q m
-  second : {v : ℕ} → P → Verdict b n q Q v → Verdicts b m n q P Q v
+  second : {v : ℕ} → P → Verdict (TableRule b) n q Q v → Verdicts b m n q P Q v
 
 module _ {b : Board} {q : ℕ} {P : Type 0} where
   -- a number told where a test fails, where it holds, or before another number
-  told-unless : {n : ℕ} {t : Bool} → Decides P (TableRule b n q) t → Verdict b n q P (cond t 0 n)
+  told-unless : {n : ℕ} {t : Bool} → Decides P (TableRule b n q) t → Verdict (TableRule b) n q P (cond t 0 n)
   told-unless (Decides.holds p) = Verdict.sound p
   told-unless (Decides.fails r) = Verdict.broken r
 
-  told-when : {n : ℕ} {t : Bool} → Decides (TableRule b n q) P t → Verdict b n q P (cond t n 0)
+  told-when : {n : ℕ} {t : Bool} → Decides (TableRule b n q) P t → Verdict (TableRule b) n q P (cond t n 0)
   told-when (Decides.holds r) = Verdict.broken r
   told-when (Decides.fails p) = Verdict.sound p
 
-  told-before : {m n v : ℕ} {Q : Type 0} {t : Bool} → Decides P (TableRule b m q) t → Verdict b n q Q v → Verdicts b m n q P Q (cond t v m)
+  told-before : {m n v : ℕ} {Q : Type 0} {t : Bool} → Decides P (TableRule b m q) t → Verdict (TableRule b) n q Q v → Verdicts b m n q P Q (cond t v m)
   told-before (Decides.holds p) s = Verdicts.second p s
   told-before (Decides.fails r) s = Verdicts.first r
 
@@ -80,10 +76,10 @@ name-decides pool most offset len = go (eqb len 0) refl (ltb most len) refl (leb
 
 -- Rules 1 to 4.
 module _ (b : Board) where
-  pub width-told : Verdict b 1 0 ((b .width ≡ 32) ⊎ (b .width ≡ 64)) (widthFault (b .width))
+  pub width-told : Verdict (TableRule b) 1 0 ((b .width ≡ 32) ⊎ (b .width ≡ 64)) (widthFault (b .width))
   width-told = go (eqb (b .width) 32) refl (eqb (b .width) 64) refl
     where
-      go : (t : Bool) → eqb (b .width) 32 ≡ t → (u : Bool) → eqb (b .width) 64 ≡ u → Verdict b 1 0 ((b .width ≡ 32) ⊎ (b .width ≡ 64)) (cond t 0 (cond u 0 1))
+      go : (t : Bool) → eqb (b .width) 32 ≡ t → (u : Bool) → eqb (b .width) 64 ≡ u → Verdict (TableRule b) 1 0 ((b .width ≡ 32) ⊎ (b .width ≡ 64)) (cond t 0 (cond u 0 1))
       go true e u f = Verdict.sound (inl (eqb-true (b .width) 32 e))
       go false e true f = Verdict.sound (inr (eqb-true (b .width) 64 f))
       go false e false f = Verdict.broken (TableRule.unknownWidth (eqb-false (b .width) 32 e) (eqb-false (b .width) 64 f))
@@ -91,7 +87,7 @@ module _ (b : Board) where
   abbrev pub NodeWords : Type 0
   NodeWords = (1 ≤ nodeCount (b .nodes)) × (nodeCount (b .nodes) ≤ maxNodes) × (length (b .nodes) ≡ 3 * nodeCount (b .nodes))
 
-  pub nodes-told : Verdict b 2 0 NodeWords (nodeWordsFault (length (b .nodes)))
+  pub nodes-told : Verdict (TableRule b) 2 0 NodeWords (nodeWordsFault (length (b .nodes)))
   nodes-told = go (eqb (words % 3) 0) refl (eqb words 0) refl (ltb (3 * maxNodes) words) refl
     where
       words : ℕ
@@ -104,7 +100,7 @@ module _ (b : Board) where
           eqb words 0 ≡ u →
           (v : Bool) →
           ltb (3 * maxNodes) words ≡ v →
-          Verdict b 2 0 NodeWords (cond t (cond u 2 (cond v 2 0)) 2)
+          Verdict (TableRule b) 2 0 NodeWords (cond t (cond u 2 (cond v 2 0)) 2)
       go false e u f v g = Verdict.broken (TableRule.partNode (eqb-false (words % 3) 0 e))
       go true e true f v g = let z = eqb-true words 0 f in Verdict.broken (TableRule.noNodes (omega arith))
       go true e false f true g = let l = ltb-true (3 * maxNodes) words g in let z = eqb-true (words % 3) 0 e in Verdict.broken (TableRule.manyNodes (omega arith))
@@ -117,13 +113,13 @@ module _ (b : Board) where
   abbrev pub PropWords : Type 0
   PropWords = (propCount (b .props) ≤ maxProperties) × (length (b .props) ≡ 5 * propCount (b .props))
 
-  pub props-told : Verdict b 3 0 PropWords (propWordsFault (length (b .props)))
+  pub props-told : Verdict (TableRule b) 3 0 PropWords (propWordsFault (length (b .props)))
   props-told = go (eqb (words % 5) 0) refl (ltb (5 * maxProperties) words) refl
     where
       words : ℕ
       words = length (b .props)
 
-      go : (t : Bool) → eqb (words % 5) 0 ≡ t → (v : Bool) → ltb (5 * maxProperties) words ≡ v → Verdict b 3 0 PropWords (cond t (cond v 3 0) 3)
+      go : (t : Bool) → eqb (words % 5) 0 ≡ t → (v : Bool) → ltb (5 * maxProperties) words ≡ v → Verdict (TableRule b) 3 0 PropWords (cond t (cond v 3 0) 3)
       go false e v g = Verdict.broken (TableRule.partProperty (eqb-false (words % 5) 0 e))
       go true e true g = let l = ltb-true (5 * maxProperties) words g in let z = eqb-true (words % 5) 0 e in Verdict.broken (TableRule.manyProperties (omega arith))
       go true e false g =
@@ -131,10 +127,10 @@ module _ (b : Board) where
           let l = ltb-false (5 * maxProperties) words g in
           Verdict.sound (omega arith, omega arith)
 
-  pub pool-told : Verdict b 4 0 (length (b .pool) ≤ maxPool) (poolFault (length (b .pool)))
+  pub pool-told : Verdict (TableRule b) 4 0 (length (b .pool) ≤ maxPool) (poolFault (length (b .pool)))
   pool-told = go (ltb maxPool (length (b .pool))) refl
     where
-      go : (t : Bool) → ltb maxPool (length (b .pool)) ≡ t → Verdict b 4 0 (length (b .pool) ≤ maxPool) (cond t 4 0)
+      go : (t : Bool) → ltb maxPool (length (b .pool)) ≡ t → Verdict (TableRule b) 4 0 (length (b .pool) ≤ maxPool) (cond t 4 0)
       go true e = Verdict.broken (TableRule.longPool (ltb-true maxPool (length (b .pool)) e))
       go false e = Verdict.sound (ltb-false maxPool (length (b .pool)) e)
 

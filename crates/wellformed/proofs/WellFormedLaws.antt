@@ -2,33 +2,30 @@
 use mathlib.Core.Path.{_≡_}
 use mathlib.Core.List.{List}
 use Prim.Native.Nat.{ℕ, suc, _<_}
+use Rattle.laws.proofs.VerdictLaws.{held}
 use Rattle.records.specs.Limits.{maxNodeName}
 use Rattle.tables.specs.Board.{Board, nodeCount, nameOffset, nameLength, propCount, propNode}
 use Rattle.tables.specs.Property.{Property, HasValue}
 use Rattle.wellformed.specs.Rules.{WellFormed}
 use Rattle.tables.proofs.DepthLaws.{DepthFirst}
 use Rattle.wellformed.proofs.UniqueLaws.{property-unique, value-unique}
-use Rattle.wellformed.proofs.SoundLaws.{Verdict, Verdicts, Name, NodeWords, PropWords, SoundProperty, nodes-told, props-told, node-told, property-told}
+use Rattle.wellformed.proofs.SoundLaws.{Verdicts, Name, NodeWords, PropWords, SoundProperty, nodes-told, props-told, node-told, property-told}
 
 module _ {b : Board} (wf : WellFormed b) where
-  kept : {n q v : ℕ} {P : Type 0} → Verdict b n q P v → P
-  kept (Verdict.sound p) = p
-  kept (Verdict.broken r) = absurd (wf _ _ r)
-
   kept-first : {m n q v : ℕ} {P Q : Type 0} → Verdicts b m n q P Q v → P
   kept-first (Verdicts.first r) = absurd (wf _ _ r)
   kept-first (Verdicts.second p s) = p
 
   kept-second : {m n q v : ℕ} {P Q : Type 0} → Verdicts b m n q P Q v → Q
   kept-second (Verdicts.first r) = absurd (wf _ _ r)
-  kept-second (Verdicts.second p s) = kept s
+  kept-second (Verdicts.second p s) = held s (wf _ _)
 
   -- the sizes of the tables
   pub wf-nodes : NodeWords b
-  wf-nodes = kept (nodes-told b)
+  wf-nodes = held (nodes-told b) (wf 2 0)
 
   pub wf-props : PropWords b
-  wf-props = kept (props-told b)
+  wf-props = held (props-told b) (wf 3 0)
 
   -- node records
   pub wf-name : (i : ℕ) → i < nodeCount (b .nodes) → Name (b .pool) maxNodeName (nameOffset (b .nodes) i) (nameLength (b .nodes) i)

@@ -70,7 +70,7 @@ clear-tables : (c : tie.Else1) → tableFault (b2 c) .number ≡ 0
 clear-tables c = ap (λ (f : Fault). f .number) (sym (c .before .before .table-fault .ensures)) ∙ c .if1 .left
 
 well : (c : tie.Else1) → WellFormed (b2 c)
-well c = table-sound (b2 c) .0 (clear-tables c)
+well c = table-sound (b2 c) (clear-tables c)
 
 rest-1 : (c : tie.Else1) → surveyFault (b2 c) ≡ fromRoot (b2 c)
 rest-1 c = survey-stages (b2 c) ∙ or-second (tableFault (b2 c)) _ (clear-tables c)

@@ -1,0 +1,53 @@
+-- The number told of one rule, and a stage of one rule. Assumes nothing.
+use mathlib.Core.Path.{_≡_, refl}
+use Prim.Native.Nat.{ℕ, zero, suc, _≤_, _<_}
+use native.Mathlib.Omega.{arith}
+use Rattle.laws.specs.Fault.{told, firstFault}
+use Rattle.laws.proofs.FirstLaws.{Tells, Stage, stage-tells}
+
+-- the number told of rule n at a place: 0 where P holds, and n where the rule is broken
+pub data Verdict (R : ℕ → ℕ → Type 0) (n p : ℕ) (P : Type 0) : ℕ → Type 0 where
+  sound : P → Verdict R n p P 0
+  broken : R n p → Verdict R n p P n
+
+-- what holds where the rule is not broken
+pub held : {R : ℕ → ℕ → Type 0} {n p v : ℕ} {P : Type 0} → Verdict R n p P v → (R n p → ⊥) → P
+held (Verdict.sound p) none = p
+held (Verdict.broken r) none = absurd (none r)
+
+module _ (stage : ℕ → ℕ) (R : ℕ → ℕ → Type 0) (n : ℕ) (pos : 0 < n) where
+  -- a stage of one rule ..
+  pub number-stage :
+      (P : ℕ → Type 0) {count : ℕ} {f : ℕ → ℕ} →
+      ((m q : ℕ) → R m q → stage m ≡ stage n → (m ≡ n) × (q < count) × (P q → ⊥)) →
+      ((q : ℕ) → q < count → ((k : ℕ) → k < q → f k ≡ 0) → Verdict R n q (P q) (f q)) →
+      Stage stage R (stage n) count f
+  number-stage P only verdict =
+      record {
+        inside = λ m q r e. only m q r e .1;
+        sound = λ q lt clean. broken (verdict q lt clean);
+        least = λ q lt clean m r e. let t = only m q r e in least (verdict q lt clean) (t .2) (t .0);
+      }
+    where
+      broken : {q v : ℕ} → Verdict R n q (P q) v → (v ≡ 0 → ⊥) → R v q × (stage v ≡ stage n)
+      broken (Verdict.sound _) ne = absurd (ne refl)
+      broken (Verdict.broken r) ne = (r, refl)
+
+      least : {q v m : ℕ} → Verdict R n q (P q) v → (P q → ⊥) → m ≡ n → (v ≡ 0 → ⊥) × (v ≤ m)
+      least (Verdict.sound p) none e = absurd (none p)
+      least (Verdict.broken r) none e = (λ z. omega arith, omega arith)
+
+  -- .. that is told of place 0 alone
+  pub once-tells :
+      {v : ℕ} {P : Type 0} →
+      ((m q : ℕ) → R m q → stage m ≡ stage n → (m ≡ n) × (q ≡ 0) × (P → ⊥)) →
+      Verdict R n 0 P v →
+      Tells stage R (stage n) (suc (stage n)) (told v 0)
+  unfolding firstFault
+  once-tells {v} {P} only verdict =
+      stage-tells stage R (stage n) 1 (λ _. v)
+      (number-stage (λ _. P) (λ m q r e. let t = only m q r e in (t .0, omega (arith, t .1), t .2)) (λ q lt _. at q lt))
+    where
+      at : (q : ℕ) → q < 1 → Verdict R n q P v
+      at zero lt = verdict
+      at (suc q) lt = absurd (omega arith)
