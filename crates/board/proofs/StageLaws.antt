@@ -47,10 +47,14 @@ module _ {b : Board} {room : ℕ} where
       Split.late (Split.late (Split.late (Split.early r (t .1)) (t .0)) (omega (arith, t .0))) (omega (arith, t .0))
   to-layers (Breaks.topology r) =
       ⊎-elim (λ t. Split.late (Split.late (Split.early r (t .1)) (t .0)) (omega (arith, t .0)))
-      (λ t. Split.late (Split.late (Split.late (Split.late (Split.early r (t .1)) (t .0)) (omega (arith, t .0))) (omega (arith, t .0))) (omega (arith, t .0)))
+      (λ t.
+      Split.late (Split.late (Split.late (Split.late (Split.early r (t .1)) (t .0)) (omega (arith, t .0))) (omega (arith, t .0)))
+      (omega (arith, t .0)))
       (topology.map-staged (topology.staged r))
   to-layers (Breaks.noRoom cpus l lt) =
-      Split.late (Split.late (Split.late (Split.late (Split.late (RoomRule.noRoom cpus l lt) (omega arith)) (omega arith)) (omega arith)) (omega arith)) (omega arith)
+      Split.late
+      (Split.late (Split.late (Split.late (Split.late (RoomRule.noRoom cpus l lt) (omega arith)) (omega arith)) (omega arith)) (omega arith))
+      (omega arith)
 
   -- the number of every broken rule stands in a stage
   pub breaks-staged : {n p : ℕ} → Breaks b room n p → stage n < length stages

@@ -90,7 +90,12 @@ module _ {b : Board} (typed : Typed b) (well : WellFormed b) where
   pub count-told : Verdict (CpuRule b) 10 0 (CountRange b) (countFault (cpuCount b))
   count-told = go (eqb (cpuCount b) 0) refl (ltb maxCpus (cpuCount b)) refl
     where
-      go : (t : Bool) → eqb (cpuCount b) 0 ≡ t → (s : Bool) → ltb maxCpus (cpuCount b) ≡ s → Verdict (CpuRule b) 10 0 (CountRange b) (cond t 10 (cond s 10 0))
+      go :
+          (t : Bool) →
+          eqb (cpuCount b) 0 ≡ t →
+          (s : Bool) →
+          ltb maxCpus (cpuCount b) ≡ s →
+          Verdict (CpuRule b) 10 0 (CountRange b) (cond t 10 (cond s 10 0))
       go true e s f =
           let z = eqb-true (cpuCount b) 0 e in
           Verdict.broken (CpuRule.noCpus (λ i c. let m = cpu-listing well .all i c in omega (arith, m .inside, cpu-count b)))

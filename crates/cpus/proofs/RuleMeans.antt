@@ -40,7 +40,16 @@ module _ {b : Board} where
   no-reg c f (CpuSays.repeated {u = u} {l = l} _ _ r _ _ _) = absurd (f u l r)
   no-reg c f (CpuSays.sound {u = u} {l = l} _ _ r _) = absurd (f u l r)
 
-  twice : {q j v : ℕ} {value : List ℕ} → WellFormed b → Cpu b q → Cpu b j → j < q → HasValue b q regKey value → HasValue b j regKey value → CpuSays b q v → (v ≡ 0 → ⊥) × (v ≤ 13)
+  twice :
+      {q j v : ℕ} {value : List ℕ} →
+      WellFormed b →
+      Cpu b q →
+      Cpu b j →
+      j < q →
+      HasValue b q regKey value →
+      HasValue b j regKey value →
+      CpuSays b q v →
+      (v ≡ 0 → ⊥) × (v ≤ 13)
   twice well c d lt g h (CpuSays.other n) = absurd (n c)
   twice well c d lt g h (CpuSays.untyped _ _) = (λ z. omega arith, omega arith)
   twice well c d lt g h (CpuSays.unread _ _ _) = (λ z. omega arith, omega arith)
@@ -52,7 +61,8 @@ module _ {b : Board} where
   staged (CpuRule.addressCells f) = Staged.root (λ r. f _ (r .cells))
   staged (CpuRule.sizeCells f) = Staged.root (λ r. f (r .size))
   staged (CpuRule.noCpus f) = Staged.count (λ well r. f (getD (cpuList b) 0 0) (cpu-listing well .only 0 (omega (arith, r .0, cpu-count b))))
-  staged (CpuRule.manyCpus l h lt) = Staged.count (λ well r. omega (arith, r .1, cpu-count b, ap length (listing-unique l (cpuList b) h (cpu-listing well))))
+  staged (CpuRule.manyCpus l h lt) =
+      Staged.count (λ well r. omega (arith, r .1, cpu-count b, ap length (listing-unique l (cpuList b) h (cpu-listing well))))
   staged (CpuRule.deviceType i c f) = Staged.cpu c (λ _ _. no-type c f)
   staged (CpuRule.reg i c f) = Staged.cpu c (λ _ _. no-reg c f)
   staged (CpuRule.repeatedReg i j value c d lt g h) = Staged.cpu c (λ well _. twice well c d lt g h)

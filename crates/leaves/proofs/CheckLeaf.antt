@@ -7,7 +7,7 @@ use lib.ListN.{length}
 use Rattle.laws.proofs.SearchLaws.{true-false}
 use Rattle.names.specs.declared.TopologyName.{TopologyName}
 use Rattle.names.specs.Kind.{Kind}
-use Rattle.tables.specs.Board.{Board, Typed, nodeCount}
+use Rattle.tables.specs.Board.{Board, Typed}
 use Rattle.wellformed.specs.Rules.{WellFormed}
 use Rattle.tables.proofs.DepthLaws.{below-test, ancestor-earlier}
 use Rattle.wellformed.proofs.WellFormedLaws.{wf-depth}
@@ -65,8 +65,11 @@ module _ {b : Board} (typed : Typed b) (well : WellFormed b) (handles : SoundPha
   -- a record that the check answers as a leaf is one, and names the cpu record answered
   pub check-leaf : isLeaf t i ≡ true → Leaf b i × Names b i (cpuAt b (cpuOf t i)) × (cpuOf t i < length (cpuList b))
   check-leaf h =
-      let n = leaf-is t i h in
-      (name-leaf well i (under-in-map is-map i (n .under)) (n .name), rw (n .cpu) (index-names typed well handles i (rw (n .cpu) at (n .inside))), in-cpus b (n .inside))
+      let n = leaf-is t i h in (
+        name-leaf well i (under-in-map is-map i (n .under)) (n .name),
+        rw (n .cpu) (index-names typed well handles i (rw (n .cpu) at (n .inside))),
+        in-cpus b (n .inside),
+      )
 
   -- a leaf at which the check answers no number is answered as one
   pub leaf-check : Leaf b i → check t i .number ≡ 0 → isLeaf t i ≡ true

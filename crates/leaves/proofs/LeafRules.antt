@@ -64,7 +64,8 @@ module _ {b : Board} (typed : Typed b) (well : WellFormed b) (handles : SoundPha
           let lt = w .4 in
           let li = found i (w .2) (omega arith) in
           let lj = found (w .0) (w .3) (omega arith) in
-          let same : cpuOf t (w .0) ≡ cpuOf t i = names-cpu typed well handles is-map (w .0) (w .1) lj (w .6) ∙ sym (names-cpu typed well handles is-map i (w .1) li (w .5)) in
+          let there = names-cpu typed well handles is-map (w .0) (w .1) lj (w .6) in
+          let same : cpuOf t (w .0) ≡ cpuOf t i = there ∙ sym (names-cpu typed well handles is-map i (w .1) li (w .5)) in
           (li, rw same at (named-at t i (w .0) lt lj))
 
       go : (l : Bool) → isLeaf t i ≡ l → (s : Bool) → namedBelow t i (cpuOf t i) ≡ s → Tested 25 (MapRule b 25 i) (repeatFault t i)

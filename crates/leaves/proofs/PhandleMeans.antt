@@ -52,4 +52,5 @@ module _ {b : Board} (typed : Typed b) (well : WellFormed b) where
     -- different cpu records have different phandles
     pub index-apart : (j k : ℕ) → j < length (cpuList b) → k < length (cpuList b) → getD (phandleList b) j 0 ≡ getD (phandleList b) k 0 → j ≡ k
     index-apart j k lj lk e =
-        index-unique (cpu-listing well) j k lj lk (phandle-distinct typed well handles (index-cpu well j lj) (index-cpu well k lk) (sym (number-at j lj) ∙ e ∙ number-at k lk))
+        index-unique (cpu-listing well) j k lj lk
+        (phandle-distinct typed well handles (index-cpu well j lj) (index-cpu well k lk) (sym (number-at j lj) ∙ e ∙ number-at k lk))

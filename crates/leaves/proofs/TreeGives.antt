@@ -46,7 +46,8 @@ module _
 
     pub leaf-listing : Listing (Leaf b) (leafList t)
     leaf-listing =
-        listed (isLeaf t) (nodeCount (b .nodes)) (λ i l. (in-map-inside (leaf-in-map l), leaf-answered i l)) (λ i _ h. check-leaf typed well handles is-map i h .0)
+        listed (isLeaf t) (nodeCount (b .nodes)) (λ i l. (in-map-inside (leaf-in-map l), leaf-answered i l))
+        (λ i _ h. check-leaf typed well handles is-map i h .0)
 
     -- every leaf names the cpu record answered ..
     pub leaf-names : (i : ℕ) → Leaf b i → Names b i (cpuAt b (cpuOf t i))
@@ -76,7 +77,8 @@ module _
     same-count =
         le-antisymm
         (listing-into {R = Names b} (leafList t) (cpuList b) leaf-listing (cpu-listing well) (λ i l. let n = leaf-names i l in (cpuAt b (cpuOf t i), n .is-cpu, n)) leaves-apart)
-        (listing-into {R = λ c i. Names b i c} (cpuList b) (leafList t) (cpu-listing well) leaf-listing cpu-leaf (λ c d i _ _. names-unique typed well handles i c d))
+        (listing-into {R = λ c i. Names b i c} (cpuList b) (leafList t) (cpu-listing well) leaf-listing cpu-leaf
+        (λ c d i _ _. names-unique typed well handles i c d))
 
     pub few-leaves : length (leafList t) ≤ maxCpus
     few-leaves = rw same-count (rw (phandle-count b) at (few-phandles typed well cpus))

@@ -80,7 +80,8 @@ module _ {b : Board} (typed : Typed b) (well : WellFormed b) (sound : SoundCpus 
       leaf-told z lt e =
           from-18
           (least-then Rule 19 24 25 0 (repeatFault t i) (omega arith) (omega arith)
-          (least-then Rule 19 23 24 0 0 (omega arith) (omega arith) (rw z at shapes) (least-one Rule 24 (omega arith) (Tested.sound (λ r. rule-24 r .1 _ (index-names typed well handles i lt)))))
+          (least-then Rule 19 23 24 0 0 (omega arith) (omega arith) (rw z at shapes)
+          (least-one Rule 24 (omega arith) (Tested.sound (λ r. rule-24 r .1 _ (index-names typed well handles i lt)))))
           (least-one Rule 25 (omega arith) (repeat-tested typed well handles is-map i checks)))
         where
           checks : (k : ℕ) → k ≤ i → check t k .number ≡ 0

@@ -19,7 +19,7 @@ use Rattle.cpus.specs.Check.{isCpu, cpuList}
 use Rattle.cpumap.specs.Map.{Map}
 use Rattle.topology.specs.Rules.{MapRule}
 use Rattle.topology.proofs.RuleCases.{Staged, staged, tree-place, place-range, tree-stage}
-use Rattle.leaves.specs.Scan.{Tree, treeAt, check, namedBelow, treeFault, leavesFault}
+use Rattle.leaves.specs.Scan.{Tree, treeAt, namedBelow, treeFault, leavesFault}
 use Rattle.leaves.proofs.LeafRules.{unmappedFault, unmapped-told}
 use Rattle.leaves.proofs.TreeLeast.{sound-checks, tree-least}
 
@@ -49,7 +49,8 @@ module _ {b : Board} (typed : Typed b) (well : WellFormed b) (sound : SoundCpus 
   -- the stage of rules 18 to 25, and that of rule 26
   records-stage : Stage stage (MapRule b) (stage 18) count (treeFault t)
   records-stage =
-      least-stage stage (MapRule b) (stage 18) 18 25 (λ n p r e. place-range (tree-place (rw e at (staged r)))) (λ n p r l h. tree-stage (staged r) l h .0)
+      least-stage stage (MapRule b) (stage 18) 18 25 (λ n p r e. place-range (tree-place (rw e at (staged r))))
+      (λ n p r l h. tree-stage (staged r) l h .0)
       (λ i lt clean. tree-least typed well sound handles is-map i clean lt)
 
   unmapped-broken : {n p : ℕ} → Staged b (stage 26) n p → MapRule b n p → (n ≡ 26) × (p < count) × ((MapRule b 26 p → ⊥) → ⊥)

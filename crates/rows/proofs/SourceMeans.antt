@@ -1,7 +1,7 @@
 -- What the rows of an accepted board are made of, and each row of them. Assumes nothing.
 use mathlib.Core.Path.{_≡_, sym, _∙_}
 use mathlib.Core.List.{map}
-use Prim.Native.Nat.{ℕ, _≤_, _<_}
+use Prim.Native.Nat.{ℕ, _<_}
 use lib.ListN.{length, getD, length-map}
 use Rattle.laws.specs.Listing.{Listing}
 use Rattle.laws.proofs.IndexLaws.{getD-map-lt}

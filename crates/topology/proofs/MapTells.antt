@@ -3,7 +3,6 @@ use mathlib.Core.Path.{_≡_, refl, sym, _∙_}
 use mathlib.Core.Bool.{Bool, cond}
 use Prim.Native.Nat.{ℕ, _<_}
 use native.Mathlib.Omega.{arith}
-use lib.Dec.{eqb}
 use Rattle.laws.proofs.FirstLaws.{NoneIn, Tells, stage-tells}
 use Rattle.laws.proofs.RuleStageLaws.{then-tells}
 use Rattle.laws.proofs.VerdictLaws.{Verdict, held, number-stage, once-tells}
@@ -38,7 +37,11 @@ module _ (b : Board) (well : WellFormed b) where
   unfolding secondMapFault
   second-map-told is-map i lt = go (decide-cases (map-name-test b well i lt)) (decide-cases (eq-decides i found))
     where
-      go : {t s : Bool} → Decided (nodeName b i ≡ mapWord) t → Decided (i ≡ found) s → Verdict (MapRule b) 16 i (Second b i → ⊥) (cond t (cond s 0 16) 0)
+      go :
+          {t s : Bool} →
+          Decided (nodeName b i ≡ mapWord) t →
+          Decided (i ≡ found) s →
+          Verdict (MapRule b) 16 i (Second b i → ⊥) (cond t (cond s 0 16) 0)
       go (Decided.holds name) (Decided.holds e) = Verdict.sound (λ w. w .4 (e ∙ sym (map-is b well (w .0) (w .1))))
       go (Decided.holds name) (Decided.fails ne) = Verdict.broken (MapRule.secondMap found i is-map lt name ne)
       go (Decided.fails n) e = Verdict.sound (λ w. n (w .3))

@@ -8,10 +8,9 @@ use lib.Dec.{eqb}
 use Rattle.laws.proofs.LeastLaws.{Least, least-none, least-only}
 use Rattle.laws.proofs.DecideLaws.{eq-decides}
 use Rattle.laws.proofs.TestedLaws.{tested-unless}
-use Rattle.names.specs.Kind.{Kind}
 use Rattle.tables.specs.Board.{Board, nodeCount}
 use Rattle.wellformed.specs.Rules.{WellFormed}
-use Rattle.cpumap.specs.Map.{Map, InMap, Outside, Is}
+use Rattle.cpumap.specs.Map.{Map, InMap, Outside}
 use Rattle.cpumap.specs.Path.{topologyName}
 use Rattle.topology.specs.Rules.{MapRule}
 use Rattle.cpumap.specs.Number.{kindNumber}

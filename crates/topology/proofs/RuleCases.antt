@@ -49,8 +49,8 @@ module _ {b : Board} where
   staged (MapRule.namedTwice i _ _ leaf _ _ _ _) = below (omega arith) (omega arith) (leaf-in-map leaf)
   staged (MapRule.unmapped c cpu _) = Staged.unmapped cpu
 
-  -- their stages: before that of rule 17, or after it
-  pub map-staged : {s n i : ℕ} → Staged b s n i → ((stage 15 ≤ s) × (s < stage 17)) ⊎ ((stage 17 < s) × (s < stage 27))
+  -- their stages: those before that of rule 17, or those from that of rule 18 on
+  pub map-staged : {s n i : ℕ} → Staged b s n i → ((stage 15 ≤ s) × (s < stage 17)) ⊎ ((stage 18 ≤ s) × (s < stage 27))
   map-staged (Staged.noMap _) = inl (omega arith)
   map-staged (Staged.secondMap _) = inl (omega arith)
   map-staged (Staged.tree _) = inr (omega arith)

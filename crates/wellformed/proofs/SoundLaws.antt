@@ -42,7 +42,11 @@ module _ {b : Board} {q : ℕ} {P : Type 0} where
   told-when (Decides.holds r) = Verdict.broken r
   told-when (Decides.fails p) = Verdict.sound p
 
-  told-before : {m n v : ℕ} {Q : Type 0} {t : Bool} → Decides P (TableRule b m q) t → Verdict (TableRule b) n q Q v → Verdicts b m n q P Q (cond t v m)
+  told-before :
+      {m n v : ℕ} {Q : Type 0} {t : Bool} →
+      Decides P (TableRule b m q) t →
+      Verdict (TableRule b) n q Q v →
+      Verdicts b m n q P Q (cond t v m)
   told-before (Decides.holds p) s = Verdicts.second p s
   told-before (Decides.fails r) s = Verdicts.first r
 
@@ -79,7 +83,12 @@ module _ (b : Board) where
   pub width-told : Verdict (TableRule b) 1 0 ((b .width ≡ 32) ⊎ (b .width ≡ 64)) (widthFault (b .width))
   width-told = go (eqb (b .width) 32) refl (eqb (b .width) 64) refl
     where
-      go : (t : Bool) → eqb (b .width) 32 ≡ t → (u : Bool) → eqb (b .width) 64 ≡ u → Verdict (TableRule b) 1 0 ((b .width ≡ 32) ⊎ (b .width ≡ 64)) (cond t 0 (cond u 0 1))
+      go :
+          (t : Bool) →
+          eqb (b .width) 32 ≡ t →
+          (u : Bool) →
+          eqb (b .width) 64 ≡ u →
+          Verdict (TableRule b) 1 0 ((b .width ≡ 32) ⊎ (b .width ≡ 64)) (cond t 0 (cond u 0 1))
       go true e u f = Verdict.sound (inl (eqb-true (b .width) 32 e))
       go false e true f = Verdict.sound (inr (eqb-true (b .width) 64 f))
       go false e false f = Verdict.broken (TableRule.unknownWidth (eqb-false (b .width) 32 e) (eqb-false (b .width) 64 f))
@@ -119,7 +128,12 @@ module _ (b : Board) where
       words : ℕ
       words = length (b .props)
 
-      go : (t : Bool) → eqb (words % 5) 0 ≡ t → (v : Bool) → ltb (5 * maxProperties) words ≡ v → Verdict (TableRule b) 3 0 PropWords (cond t (cond v 3 0) 3)
+      go :
+          (t : Bool) →
+          eqb (words % 5) 0 ≡ t →
+          (v : Bool) →
+          ltb (5 * maxProperties) words ≡ v →
+          Verdict (TableRule b) 3 0 PropWords (cond t (cond v 3 0) 3)
       go false e v g = Verdict.broken (TableRule.partProperty (eqb-false (words % 5) 0 e))
       go true e true g = let l = ltb-true (5 * maxProperties) words g in let z = eqb-true (words % 5) 0 e in Verdict.broken (TableRule.manyProperties (omega arith))
       go true e false g =
