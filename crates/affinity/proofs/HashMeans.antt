@@ -6,19 +6,21 @@ use Prim.Native.Nat.{ℕ, _+_, _≤_, _<_}
 use native.Mathlib.Omega.{arith}
 use lib.ListN.{length, getD}
 use lib.Seq.{ext-getD}
-use Rattle.laws.specs.Digit.{digit}
-use Rattle.laws.specs.Listing.{Member}
-use Rattle.laws.specs.Sum.{sumBelow}
+use Rattle.laws.specs.facts.Digit.{digit}
+use Rattle.laws.specs.facts.Listing.{Member}
+use Rattle.laws.specs.facts.Sum.{sumBelow}
 use Rattle.laws.proofs.SearchLaws.{lt-or-le}
 use Rattle.laws.proofs.SumLaws.{sum-same}
 use Rattle.laws.proofs.DigitLaws.{digit-lt}
 use Rattle.laws.proofs.FromDigitLaws.{digit-not-one, digit-ext-below}
 use Rattle.affinity.specs.declared.Hash.{Hash}
-use Rattle.affinity.specs.Level.{beginOf, levelPart, lowOf, widthOf}
-use Rattle.affinity.specs.Mask.{maskOf}
-use Rattle.affinity.specs.Hash.{bitsBelow, shiftOf, shiftsOf, hashOfMask, hashOf, slotIn}
-use Rattle.affinity.specs.List.{AllAffine}
-use Rattle.affinity.specs.HashFacts.{IsMask, IsHash}
+use Rattle.affinity.specs.facts.Level.{beginOf, levelPart}
+use Rattle.affinity.specs.answers.Level.{lowOf, widthOf}
+use Rattle.affinity.specs.answers.Mask.{maskOf}
+use Rattle.affinity.specs.answers.Hash.{bitsBelow, shiftOf, shiftsOf, hashOfMask, hashOf, slotIn}
+use Rattle.affinity.specs.steps.List.{AllAffine}
+use Rattle.affinity.specs.facts.Mask.{IsMask}
+use Rattle.affinity.specs.facts.Hash.{IsHash}
 use Rattle.affinity.proofs.LevelLaws.{part-lt}
 use Rattle.affinity.proofs.LevelMeans.{low-unique, width-unique, low-holds, width-holds}
 use Rattle.affinity.proofs.AffineLaws.{bit-level}

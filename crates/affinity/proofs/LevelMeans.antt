@@ -5,13 +5,13 @@ use Prim.Native.Nat.{ℕ, zero, suc, _+_, _*_, _<_}
 use native.Mathlib.Numerals.{add-one}
 use native.Mathlib.Omega.{arith}
 use lib.Count.{leadingZeros}
-use Rattle.laws.specs.Digit.{digit}
+use Rattle.laws.specs.facts.Digit.{digit}
 use Rattle.laws.proofs.DigitLaws.{digit-zero}
 use Rattle.laws.proofs.ShiftLaws.{digit-shl, digit-top}
 use Rattle.laws.proofs.FromDigitLaws.{no-digit, digit-high}
 use Rattle.laws.proofs.FirstLaws.{compared}
-use Rattle.affinity.specs.Level.{lowOf, topOf, widthOf}
-use Rattle.affinity.specs.LevelFacts.{Low, Top, Width}
+use Rattle.affinity.specs.answers.Level.{lowOf, topOf, widthOf}
+use Rattle.affinity.specs.facts.Level.{Low, Top, Width}
 use Rattle.affinity.proofs.LevelLaws.{low-means, top-means, low-width, low-digit}
 
 -- the computed ones meet the facts

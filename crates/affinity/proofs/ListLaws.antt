@@ -7,16 +7,18 @@ use native.Mathlib.Omega.{arith}
 use lib.Dec.{eqb, ltb, lit≤}
 use lib.ListN.{length, getD}
 use borrow.Author.Tests.{ne-eqb, eqb-false, ltb-false, le-ltb}
-use Rattle.laws.specs.Fault.{clear, told}
-use Rattle.laws.specs.Search.{isAmong}
+use Rattle.laws.specs.answers.Fault.{clear, told}
+use Rattle.laws.specs.answers.Search.{isAmong}
 use Rattle.laws.proofs.SearchLaws.{true-false}
 use Rattle.laws.proofs.FaultLaws.{first-is, clear-below, place-le}
 use Rattle.laws.proofs.OrElseLaws.{or-clear}
 use Rattle.affinity.specs.declared.list.ListMask.{ListMask}
 use Rattle.affinity.specs.declared.mask.Gathered.{Gathered}
-use Rattle.affinity.specs.Level.{isAffine}
-use Rattle.affinity.specs.Mask.{maskOf, gathered}
-use Rattle.affinity.specs.List.{lengthFault, bitFault, AllAffine, firstOutside, listFault, maskAnswer, hashAnswer, slotAnswer}
+use Rattle.affinity.specs.answers.Level.{isAffine}
+use Rattle.affinity.specs.answers.Mask.{maskOf}
+use Rattle.affinity.specs.steps.Mask.{gathered}
+use Rattle.affinity.specs.answers.List.{lengthFault, bitFault, firstOutside, listFault, hashAnswer, slotAnswer}
+use Rattle.affinity.specs.steps.List.{AllAffine, maskAnswer}
 use Rattle.affinity.proofs.AffineLaws.{test-affine, affine-passes}
 use Rattle.affinity.proofs.MaskLaws.{some-affine, affine-some}
 

@@ -7,9 +7,9 @@ use native.Mathlib.Omega.{arith}
 use lib.Dec.{eqb, ltb}
 use lib.ListN.{length, getD}
 use borrow.Author.Tests.{eqb-true, eqb-false, ltb-true, ltb-false}
-use Rattle.laws.specs.Fault.{told, orElse}
-use Rattle.laws.specs.Search.{isAmong}
-use Rattle.laws.specs.Listing.{Member}
+use Rattle.laws.specs.answers.Fault.{told, orElse}
+use Rattle.laws.specs.answers.Search.{isAmong}
+use Rattle.laws.specs.facts.Listing.{Member}
 use Rattle.laws.proofs.DecideLaws.{Decides, among-decides}
 use Rattle.laws.proofs.TestedLaws.{Decided, decide-cases}
 use Rattle.laws.proofs.FirstLaws.{Tells, stage-tells}
@@ -17,10 +17,10 @@ use Rattle.laws.proofs.RuleStageLaws.{Split, split-tells, tells-as, then-tells,
 use Rattle.laws.proofs.VerdictLaws.{Verdict, number-stage, once-tells}
 use Rattle.affinity.specs.declared.ListHash.{ListHash}
 use Rattle.affinity.specs.declared.ListSlot.{ListSlot}
-use Rattle.affinity.specs.Level.{Affine}
-use Rattle.affinity.specs.Hash.{hashOf}
-use Rattle.affinity.specs.List.{lengthFault, bitFault, firstOutside, listFault, hashAnswer, slotAnswer}
-use Rattle.affinity.specs.ListFacts.{ListRule, SlotRule, listStage, HashDemands, SlotDemands}
+use Rattle.affinity.specs.facts.Level.{Affine}
+use Rattle.affinity.specs.answers.Hash.{hashOf}
+use Rattle.affinity.specs.answers.List.{lengthFault, bitFault, firstOutside, listFault, hashAnswer, slotAnswer}
+use Rattle.affinity.specs.facts.List.{ListRule, SlotRule, listStage, HashDemands, SlotDemands}
 use Rattle.affinity.proofs.AffineLaws.{test-affine, affine-passes}
 use Rattle.affinity.proofs.ListLaws.{fault-affine}
 use Rattle.affinity.proofs.HashMeans.{hash-is}

@@ -12,15 +12,16 @@ use lib.Dec.{eqb, lit<}
 use lib.ListN.{length, getD}
 use lib.Pow.{ones-lt, ones-sub-lt}
 use borrow.Author.Tests.{ne-eqb, eqb-true, eqb-false}
-use Rattle.laws.specs.Digit.{digit}
-use Rattle.laws.specs.Search.{anyBelow}
+use Rattle.laws.specs.facts.Digit.{digit}
+use Rattle.laws.specs.answers.Search.{anyBelow}
 use Rattle.laws.proofs.SearchLaws.{true-false, below-suc, any-at, any-place}
 use Rattle.laws.proofs.DigitLaws.{digit-lt, digit-and, digit-or}
 use Rattle.laws.proofs.FromDigitLaws.{no-digit, from-lt, from-digit, from-is, digit-not}
-use Rattle.affinity.specs.Level.{Affine}
-use Rattle.affinity.specs.List.{AllAffine}
-use Rattle.affinity.specs.Mask.{Differ, differing, maskOf, someBelow}
-use Rattle.affinity.specs.HashFacts.{IsMask}
+use Rattle.affinity.specs.facts.Level.{Affine}
+use Rattle.affinity.specs.steps.List.{AllAffine}
+use Rattle.affinity.specs.facts.Mask.{Differ, IsMask}
+use Rattle.affinity.specs.answers.Mask.{differing, maskOf}
+use Rattle.affinity.specs.steps.Mask.{someBelow}
 
 -- the and of the first n of a list, in 64 bits
 unfoldable pub allBelow : List ℕ → ℕ → ℕ

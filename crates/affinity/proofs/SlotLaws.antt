@@ -9,14 +9,16 @@ use native.Mathlib.Omega.{arith}
 use lib.Bits.{bitAnd}
 use lib.Dec.{lit<}
 use lib.Pow.{pow-mono}
-use Rattle.laws.specs.Digit.{digit}
-use Rattle.laws.specs.Sum.{sumBelow}
+use Rattle.laws.specs.facts.Digit.{digit}
+use Rattle.laws.specs.facts.Sum.{sumBelow}
 use Rattle.laws.proofs.SearchLaws.{lt-or-le}
 use Rattle.laws.proofs.FirstLaws.{compared}
 use Rattle.laws.proofs.DigitLaws.{digit-lt, digit-and, digit-or, digit-ext}
 use Rattle.laws.proofs.ShiftLaws.{digit-shr, field-in, field-below, field-above, digit-bound}
-use Rattle.affinity.specs.Level.{beginOf, levelPart, lowOf, topOf, widthOf}
-use Rattle.affinity.specs.Hash.{bitsBelow, shiftOf, shiftsOf, hashOfMask, levelSlot, slotOf, below64, slotGuarded}
+use Rattle.affinity.specs.facts.Level.{beginOf, levelPart}
+use Rattle.affinity.specs.answers.Level.{lowOf, topOf, widthOf}
+use Rattle.affinity.specs.answers.Hash.{bitsBelow, shiftOf, shiftsOf, hashOfMask, below64, slotGuarded}
+use Rattle.affinity.specs.facts.Slot.{levelSlot, slotOf}
 use Rattle.affinity.proofs.LevelLaws.{part-lt, part-digit, low-width, low-digit, top-digit, in-field}
 use Rattle.affinity.proofs.HashLaws.{shift-exact, bits-le, shift-lt}
 

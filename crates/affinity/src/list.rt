@@ -6,16 +6,14 @@ use super::slot::slot_of;
 use crate::Hash;
 use crate::ListHash;
 use crate::ListSlot;
-use laws::BAD_LIST_LENGTH;
 use laws::Fault;
-use laws::NOT_LISTED;
-use laws::OUTSIDE_BITS;
 use laws::is_among;
+use laws::limits::MAX_CPUS;
+use laws::rules;
 ghost use mathlib.Core.Path.{_≡_};
-ghost use Rattle.affinity.specs.List.{firstOutside, maskAnswer, hashAnswer, slotAnswer};
-ghost use Rattle.affinity.specs.ListFacts.{HashDemands, SlotDemands};
-
-const MOST_LISTED: usize = 256;
+ghost use Rattle.affinity.specs.answers.List.{firstOutside, hashAnswer, slotAnswer};
+ghost use Rattle.affinity.specs.steps.List.{maskAnswer};
+ghost use Rattle.affinity.specs.facts.List.{HashDemands, SlotDemands};
 
 // The mask of a list, or the number and the place of what is wrong with it.
 struct ListMask {
@@ -65,7 +63,7 @@ pub fn list_slot(mpidr: u64, list: &[u64]) -> ListSlot
     }
     if !is_among(list, mpidr) {
         return ListSlot {
-            number: NOT_LISTED,
+            number: rules::LIST_UNKNOWN,
             place: 0,
             slot: 0,
         };
@@ -84,14 +82,14 @@ fn list_mask(list: &[u64]) -> ListMask
 {
     if list.len() == 0 {
         return ListMask {
-            number: BAD_LIST_LENGTH,
+            number: rules::LIST_LENGTH,
             place: 0,
             mask: 0,
         };
     }
-    if MOST_LISTED < list.len() {
+    if MAX_CPUS < list.len() {
         return ListMask {
-            number: BAD_LIST_LENGTH,
+            number: rules::LIST_LENGTH,
             place: 0,
             mask: 0,
         };
@@ -120,7 +118,7 @@ fn first_outside(list: &[u64]) -> Fault
     while i < list.len() {
         if !is_affine(list[i]) {
             return Fault {
-                number: OUTSIDE_BITS,
+                number: rules::LIST_MPIDR,
                 place: i,
             };
         }

@@ -1,7 +1,8 @@
 // The mask of a list of MPIDRs.
 ghost use mathlib.Core.Path.{_≡_};
-ghost use Rattle.affinity.specs.Mask.{gathered, maskOf};
-ghost use Rattle.affinity.specs.HashFacts.{IsMask};
+ghost use Rattle.affinity.specs.steps.Mask.{gathered};
+ghost use Rattle.affinity.specs.answers.Mask.{maskOf};
+ghost use Rattle.affinity.specs.facts.Mask.{IsMask};
 
 // What one pass over a list gives: the or of all of it, and its mask.
 pub struct Gathered {

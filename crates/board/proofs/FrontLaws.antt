@@ -5,10 +5,10 @@ use Prim.Native.Nat.{ℕ, _≤_}
 use native.Mathlib.Omega.{arith}
 use lib.ListN.{length, take}
 use lib.Seq.{length-take-le}
-use Rattle.laws.specs.Listed.{over}
+use Rattle.laws.specs.answers.Listed.{laidOver}
 use Rattle.laws.proofs.OverLaws.{over-length, over-front}
 
-module _ (l before : List ℕ) {array : List ℕ} {n : ℕ} (laid : array ≡ over l before) (count : n ≡ length l) (few : length l ≤ length before) where
+module _ (l before : List ℕ) {array : List ℕ} {n : ℕ} (laid : array ≡ laidOver l before) (count : n ≡ length l) (few : length l ≤ length before) where
   pub front-fits : n ≤ length array
   front-fits = rw (laid, over-length l before) (omega arith)
 

@@ -1,10 +1,4 @@
--- Laws that belong to no one function.
-pub mod StageLaws
-pub mod LayerLaws
-pub mod BoardTells
-pub mod Claim
+-- Laws about the parts of the reading call.
 pub mod FrontLaws
 pub mod ReadLaws
 pub mod SurveyLaws
-pub mod BoundLaws
-pub mod DemandsUnique

@@ -8,23 +8,24 @@ use lib.Dec.{eqb, ltb}
 use lib.ListN.{length}
 use borrow.Author.Tests.{eq-eqb, ne-eqb, eqb-true, lt-ltb, le-ltb}
 use Rattle.laws.specs.declared.Fault.{Fault}
-use Rattle.laws.specs.Fault.{told}
+use Rattle.laws.specs.answers.Fault.{told}
 use Rattle.laws.proofs.FaultLaws.{or-first, or-second}
-use Rattle.layout.specs.Row.{rowSize}
+use Rattle.layout.specs.facts.Row.{rowSize}
 use Rattle.affinity.specs.declared.Hash.{Hash}
-use Rattle.affinity.specs.Hash.{hashOf}
-use Rattle.tables.specs.Board.{Board, Typed}
-use Rattle.cpus.specs.Check.{cpuCount, mpidrList}
+use Rattle.affinity.specs.answers.Hash.{hashOf}
+use Rattle.tables.specs.facts.Board.{Board, WordSized}
+use Rattle.cpus.specs.answers.Check.{cpuCount, mpidrList}
 use Rattle.cpumap.specs.declared.MapScan.{MapScan}
-use Rattle.cpumap.specs.Find.{mapOf, mapFault, mapScan}
-use Rattle.leaves.specs.Scan.{leavesOf}
-use Rattle.rows.specs.Write.{written, sourceOf}
-use Rattle.board.specs.declared.BoardAnswer.{BoardAnswer}
+use Rattle.cpumap.specs.answers.Find.{mapOf, mapFault, mapScan}
+use Rattle.leaves.specs.answers.Scan.{leavesOf}
+use Rattle.rows.specs.answers.Write.{written, sourceOf}
+use Rattle.demands.specs.declared.BoardAnswer.{BoardAnswer}
 use Rattle.board.specs.declared.Surveyed.{Surveyed}
-use Rattle.board.specs.Survey.{surveyFault, surveyOf}
-use Rattle.board.specs.Answer.{boardFault, refusedWith, answerOf, rowsAfter}
-use Rattle.board.specs.Reading.{Demands}
-use Rattle.board.proofs.Claim.{demands}
+use Rattle.demands.specs.answers.Survey.{surveyFault}
+use Rattle.board.specs.steps.Survey.{surveyOf}
+use Rattle.demands.specs.answers.Answer.{boardFault, refusedWith, answerOf, rowsAfter}
+use Rattle.demands.specs.facts.Reading.{Demands}
+use Rattle.demands.proofs.Claim.{demands}
 
 -- A scan: `good` where the fault tells nothing, and else `bad`, which holds the fault's number and place.
 module _ {A : Type 0} (f : Fault) (good bad : A) where
@@ -72,13 +73,13 @@ module _ (b : Board) where
   unfolding surveyOf
   survey-counts z = rw (eq-eqb (surveyFault b .number) 0 z) (refl, refl)
 
-module _ {b : Board} (typed : Typed b) (before : List ℕ) where
+module _ {b : Board} (sized : WordSized b) (before : List ℕ) where
   -- what the contract asks of an answer and the buffer after the call
   abbrev pub Met : BoardAnswer → List ℕ → Type 0
   Met r after = (r ≡ answerOf b (length before)) × ((after ≡ rowsAfter b before) × Demands b before r after)
 
   met : {r : BoardAnswer} {after : List ℕ} → r ≡ answerOf b (length before) → after ≡ rowsAfter b before → Met r after
-  met e g = (e, (g, rw (e, g) (demands typed before)))
+  met e g = (e, (g, rw (e, g) (demands sized before)))
 
   -- a fault is told
   refuses : {r : BoardAnswer} {f : Fault} → boardFault b (length before) ≡ f → (f .number ≡ 0 → ⊥) → r ≡ refusedWith (f .number) (f .place) → Met r before

@@ -7,36 +7,37 @@ use lib.ListN.{length, take, replicate, length-map}
 use lib.Seq.{take-all}
 use borrow.Author.Tests.{eq-eqb, ne-eqb}
 use Rattle.laws.specs.declared.Fault.{Fault}
-use Rattle.laws.specs.Fault.{told, orElse}
-use Rattle.laws.specs.Search.{countBelow, listBelow}
+use Rattle.laws.specs.answers.Fault.{told, orElse}
+use Rattle.laws.specs.answers.Search.{countBelow, listBelow}
 use Rattle.laws.proofs.FaultLaws.{or-first}
 use Rattle.laws.proofs.OrElseLaws.{or-clear, or-assoc}
-use Rattle.tables.specs.Board.{Board, nodeCount}
-use Rattle.tables.specs.Property.{lookup}
-use Rattle.wellformed.specs.Limits.{maxNodes}
-use Rattle.wellformed.specs.Rules.{WellFormed}
-use Rattle.wellformed.specs.Check.{tableFault}
+use Rattle.tables.specs.facts.Board.{Board, nodeCount}
+use Rattle.tables.specs.answers.Lookup.{lookup}
+use Rattle.laws.specs.facts.Limits.{maxNodes, maxCpus}
+use Rattle.wellformed.specs.facts.Rules.{WellFormed}
+use Rattle.wellformed.specs.answers.Check.{tableFault}
 use Rattle.wellformed.proofs.WellFormedLaws.{wf-nodes, wf-props, wf-prop-node}
-use Rattle.keys.specs.declared.Key.{Key}
-use Rattle.keys.specs.declared.Key.the-variants.{Cpu}
-use Rattle.keys.specs.Key.{keyName}
-use Rattle.keys.specs.Index.{keysOf, keyAt}
-use Rattle.keys.proofs.IndexLaws.{index-finds}
-use Rattle.cpus.specs.declared.Reading.{Reading}
-use Rattle.cpus.specs.declared.Wanted.{Wanted}
-use Rattle.cpus.specs.Rules.{maxCpus}
-use Rattle.cpus.specs.Check.{isCpu, rootFault, cpuCount, cpuList, countFault, phandleReadings, cpuFault, cpusFault, phandlesFault, phandleList}
-use Rattle.cpus.specs.Gather.{readingAt, readingOf, firstRecord, numbersOver}
+use Rattle.property_index.specs.declared.Key.{Key}
+use Rattle.property_index.specs.declared.Key.the-variants.{Cpu}
+use Rattle.property_index.specs.answers.Key.{keyName}
+use Rattle.property_index.specs.answers.Index.{indexed, indexedAt}
+use Rattle.property_index.proofs.IndexLaws.{index-finds}
+use Rattle.cpus.specs.declared.CpuReading.{CpuReading}
+use Rattle.cpus.specs.declared.CpuNumbers.{CpuNumbers}
+use Rattle.cpus.specs.answers.Check.{isCpu, rootFault, cpuCount, cpuList, countFault, phandleReadings, cpuFault, cpusFault, phandlesFault}
+use Rattle.cpus.specs.answers.Check.{phandleList}
+use Rattle.cpus.specs.answers.Numbers.{readingAt, readingOf, firstRecord, numbersOver}
 use Rattle.cpus.proofs.CpuMeans.{cpu-count}
 use Rattle.cpus.proofs.ScanLaws.{same-reading, numbers-clear}
-use Rattle.cpumap.specs.Find.{mapOf, mapFault}
-use Rattle.leaves.specs.Scan.{lentTree, leavesFault, treeOf, leavesOf}
+use Rattle.cpumap.specs.answers.Find.{mapOf, mapFault}
+use Rattle.leaves.specs.answers.Scan.{lentTree, leavesFault, treeOf, leavesOf}
 use Rattle.leaves.proofs.CellLaws.{same-cells}
 use Rattle.leaves.proofs.ScanLaws.{leaves-few}
-use Rattle.laws.specs.Listed.{over}
+use Rattle.laws.specs.answers.Listed.{laidOver}
 use Rattle.board.specs.declared.Surveyed.{Surveyed}
-use Rattle.board.specs.Survey.{surveyFault, stopped, surveyOf}
-use Rattle.board.proofs.LayerLaws.{few-cpus}
+use Rattle.demands.specs.answers.Survey.{surveyFault}
+use Rattle.board.specs.steps.Survey.{stopped, surveyOf}
+use Rattle.demands.proofs.LayerLaws.{few-cpus}
 
 -- the faults from each stage on
 module _ (b : Board) where
@@ -91,36 +92,36 @@ module _ (b : Board) (well : WellFormed b) where
   pub counted-all : countBelow (isCpu (b .nodes) (b .pool)) (min (nodeCount (b .nodes)) maxNodes) ≡ cpuCount b
   counted-all = rw all-records
 
-  pub listed-all : (before : List ℕ) → over (listBelow (isCpu (b .nodes) (b .pool)) (min (nodeCount (b .nodes)) maxNodes)) before ≡ over (cpuList b) before
+  pub listed-all : (before : List ℕ) → laidOver (listBelow (isCpu (b .nodes) (b .pool)) (min (nodeCount (b .nodes)) maxNodes)) before ≡ laidOver (cpuList b) before
   listed-all before = rw all-records
 
 -- the table of keys of a board
 abbrev pub boardKeys : Board → List ℕ
-boardKeys b = keysOf (replicate 4096 0) (b .props) (b .pool)
+boardKeys b = indexed (replicate 4096 0) (b .props) (b .pool)
 
 -- a board with well-formed tables; what was read before a stage
-module _ (b : Board) (well : WellFormed b) {keys records : List ℕ} (keys-are : keys ≡ boardKeys b) (records-are : records ≡ cpuList b) where
-  finds : (i : ℕ) (key : Key) → keyAt keys i key ≡ lookup (b .props) (b .pool) i (keyName key)
+module _ (b : Board) (well : WellFormed b) {index records : List ℕ} (keys-are : index ≡ boardKeys b) (records-are : records ≡ cpuList b) where
+  finds : (i : ℕ) (key : Key) → indexedAt index i key ≡ lookup (b .props) (b .pool) i (keyName key)
   finds =
       rw keys-are
       (index-finds (b .props) (b .pool) (wf-props well .0)
       (λ k lt. omega (arith, wf-prop-node well k lt, wf-nodes well .1)))
 
   -- rules 11 to 13, and rule 17: the readings by the table of keys and the records listed
-  module _ {asked wanted : Wanted} (asked-is : asked ≡ wanted) (rule : ℕ) where
-    abbrev here : ℕ → Reading
-    here = readingAt asked (b .props) (b .pool) keys
+  module _ {asked wanted : CpuNumbers} (asked-is : asked ≡ wanted) (rule : ℕ) where
+    abbrev here : ℕ → CpuReading
+    here = readingAt asked (b .props) (b .pool) index
 
-    abbrev there : ℕ → Reading
+    abbrev there : ℕ → CpuReading
     there = readingOf wanted (b .props) (b .pool)
 
     readings : here ≡ there
-    readings = rw asked-is (same-reading wanted (b .props) (b .pool) keys finds)
+    readings = rw asked-is (same-reading wanted (b .props) (b .pool) index finds)
 
     pub numbers-stage : firstRecord here rule records ≡ firstRecord there rule (cpuList b)
     numbers-stage = rw (readings, records-are)
 
-    pub numbers-found : (before : List ℕ) → firstRecord there rule (cpuList b) .number ≡ 0 → numbersOver here rule records before ≡ over (map (λ i. there i .value) (cpuList b)) before
+    pub numbers-found : (before : List ℕ) → firstRecord there rule (cpuList b) .number ≡ 0 → numbersOver here rule records before ≡ laidOver (map (λ i. there i .value) (cpuList b)) before
     numbers-found before z = rw (readings, records-are) (numbers-clear there rule (cpuList b) before z)
 
   -- rules 18 to 26: no record and no phandle is cut off
@@ -129,10 +130,10 @@ module _ (b : Board) (well : WellFormed b) {keys records : List ℕ} (keys-are :
       root ≡ mapOf (b .nodes) (b .pool) →
       phandles ≡ phandleList b →
       length phandles ≤ maxCpus →
-      lentTree (b .nodes) (b .props) (b .pool) keys root phandles ≡ treeOf b
+      lentTree (b .nodes) (b .props) (b .pool) index root phandles ≡ treeOf b
   tree-is {phandles = phandles} root-is phandles-are few =
       let whole : take (3 * maxNodes) (b .nodes) ≡ b .nodes = take-all (3 * maxNodes) (b .nodes) (omega (arith, wf-nodes well .1, wf-nodes well .2)) in
-      rw (root-is, whole, take-all maxCpus phandles few ∙ phandles-are, same-cells (b .props) (b .pool) keys (λ i. finds i Cpu))
+      rw (root-is, whole, take-all maxCpus phandles few ∙ phandles-are, same-cells (b .props) (b .pool) index (λ i. finds i Cpu))
 
 -- where the survey tells nothing, there are few cpu records, and no more leaves than these
 pub survey-few : (b : Board) → surveyFault b .number ≡ 0 → (cpuCount b ≤ maxCpus) × (length (leavesOf b) ≤ cpuCount b)

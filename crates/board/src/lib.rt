@@ -2,23 +2,16 @@
 mod survey;
 
 use affinity::Hash;
-use cpus::MAX_CPUS;
-use laws::NO_ROOM;
+use demands::BoardAnswer;
+use laws::limits::MAX_CPUS;
+use laws::rules;
 use layout::ROW_WORDS;
 use survey::survey;
 ghost use mathlib.Core.Path.{_≡_};
 ghost use lib.ListN.{length};
-ghost use Rattle.tables.specs.Board.{board};
-ghost use Rattle.board.specs.Answer.{refusedWith, answerOf, rowsAfter};
-ghost use Rattle.board.specs.Reading.{Demands};
-
-// Number 0 and place 0, with the count of rows and the hash of the MPIDRs; or a refusal, in which these are 0.
-pub struct BoardAnswer {
-    pub number: u32,
-    pub place: usize,
-    pub count: usize,
-    pub hash: Hash,
-}
+ghost use Rattle.tables.specs.facts.Board.{board};
+ghost use Rattle.demands.specs.answers.Answer.{refusedWith, answerOf, rowsAfter};
+ghost use Rattle.demands.specs.facts.Reading.{Demands};
 
 // What a survey answers: number 0 and place 0, with the counts of the cpu records and of the leaves; or a refusal, in which these are 0.
 struct Surveyed {
@@ -80,7 +73,7 @@ pub fn read_tables(
     }
     let count = found.cpus;
     if rows.len() / ROW_WORDS < count {
-        return refused(NO_ROOM, 0);
+        return refused(rules::ROW_SPACE, 0);
     }
     let listed = &mpidrs[..count];
     let hash = affinity::hash_of_mask(affinity::mask_of(listed));

@@ -1,13 +1,14 @@
 // Rules 1 to 26, and what the rows are made of: the cpu records, their MPIDRs, the leaves and the cpus that they name.
 use crate::Surveyed;
-use cpus::MAX_CPUS;
+use cpus::CpuNumbers;
 use cpus::RootCells;
-use cpus::Wanted;
-use keys::KEY_WORDS;
-use laws::BAD_CPUS_NODE;
+use laws::limits::MAX_CPUS;
+use laws::rules;
+use property_index::INDEX_WORDS;
 ghost use mathlib.Core.Path.{_≡_};
-ghost use Rattle.tables.specs.Board.{board};
-ghost use Rattle.board.specs.Survey.{stopped, surveyFault, surveyOf, Lists};
+ghost use Rattle.tables.specs.facts.Board.{board};
+ghost use Rattle.board.specs.steps.Survey.{stopped, surveyOf, Lists};
+ghost use Rattle.demands.specs.answers.Survey.{surveyFault};
 
 fn stop(number: u32, place: usize) -> Surveyed
     ensures { λ r. ⌜ r ≡ stopped number place ⌝ }
@@ -45,7 +46,7 @@ pub fn survey(
         return stop(fault.number, fault.place);
     }
     let RootCells::Are(cells) = cpus::read_cells(width, nodes, props, pool) else {
-        return stop(BAD_CPUS_NODE, 0);
+        return stop(rules::CPUS_NODE, 0);
     };
     let count = cpus::list_cpus(nodes, pool, cpus);
     let number = cpus::count_fault(count);
@@ -54,9 +55,16 @@ pub fn survey(
     }
     let whole = &cpus[..];
     let listed = &whole[..count];
-    let mut keys = [0u16; KEY_WORDS];
-    keys::index_keys(props, pool, &mut keys);
-    let fault = cpus::read_numbers(Wanted::Mpidrs(cells), props, pool, &keys, listed, mpidrs);
+    let mut index = [0u16; INDEX_WORDS];
+    property_index::index_properties(props, pool, &mut index);
+    let fault = cpus::read_numbers(
+        CpuNumbers::Mpidrs(cells),
+        props,
+        pool,
+        &index,
+        listed,
+        mpidrs,
+    );
     if fault.number != 0 {
         return stop(fault.number, fault.place);
     }
@@ -65,7 +73,14 @@ pub fn survey(
         return stop(map.number, map.place);
     }
     let mut phandles = [0u64; MAX_CPUS];
-    let fault = cpus::read_numbers(Wanted::Phandles, props, pool, &keys, listed, &mut phandles);
+    let fault = cpus::read_numbers(
+        CpuNumbers::Phandles,
+        props,
+        pool,
+        &index,
+        listed,
+        &mut phandles,
+    );
     if fault.number != 0 {
         return stop(fault.number, fault.place);
     }
@@ -73,7 +88,7 @@ pub fn survey(
         nodes,
         props,
         pool,
-        &keys,
+        &index,
         map.map,
         listed,
         &phandles[..count],

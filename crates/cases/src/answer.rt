@@ -2,7 +2,7 @@
 use crate::say;
 use crate::table;
 use affinity::Hash;
-use board::BoardAnswer;
+use demands::BoardAnswer;
 
 pub fn show(answer: BoardAnswer, rows: &[u32]) {
     if answer.number == 0 {

@@ -9,10 +9,10 @@ pub fn word() -> u32 {
 }
 
 fn word_of(bytes: &[u8; 4]) -> u32 {
-    join(bytes[0], bytes[1], bytes[2], bytes[3])
+    little_endian(bytes[0], bytes[1], bytes[2], bytes[3])
 }
 
-fn join(a: u8, b: u8, c: u8, d: u8) -> u32 {
+fn little_endian(a: u8, b: u8, c: u8, d: u8) -> u32 {
     a as u32 + b as u32 * 256 + c as u32 * 65536 + d as u32 * 16777216
 }
 

@@ -8,19 +8,20 @@ use lib.Dec.{ltb}
 use lib.ListN.{length, set}
 use borrow.Author.Tests.{lt-ltb, le-ltb, le-leb, lt-leb, eq-eqb, ne-eqb}
 use Rattle.laws.specs.declared.Fault.{Fault}
-use Rattle.laws.specs.Fault.{firstFault}
-use Rattle.layout.specs.Row.{gap}
+use Rattle.laws.specs.answers.Fault.{firstFault}
+use Rattle.layout.specs.facts.Row.{gap}
 use Rattle.names.specs.declared.TopologyName.{TopologyName}
 use Rattle.names.specs.declared.TopologyName.the-variants.{Socket, Cluster, Core, Thread, Other}
-use Rattle.names.specs.Name.{nameOf}
-use Rattle.tables.specs.Board.{nodeCount, range, nameOffset, nameLength}
-use Rattle.tables.specs.declared.Parent.the-variants.{Is, Top}
-use Rattle.tables.specs.Tree.{parentOf, climb}
+use Rattle.names.specs.answers.Name.{nameOf}
+use Rattle.tables.specs.facts.Board.{nodeCount, range, nameOffset, nameLength}
+use Rattle.tables.specs.declared.Parent.the-variants.{Record, Top}
+use Rattle.tables.specs.answers.Tree.{parentOf, climb}
 use Rattle.tables.proofs.TreeLaws.{parent-is, parent-top, the-parent, climb-parent, climb-none, climb-keeps}
 use Rattle.cpumap.specs.declared.ClusterPath.{ClusterPath}
 use Rattle.cpumap.specs.declared.Position.{Position}
-use Rattle.cpumap.specs.Path.{topologyName, noClusters, extend, clusterStep, clusterPath, socketStep, socketNumber, noPosition, positionStep, positionOf}
-use Rattle.cpumap.specs.Find.{mapOf, secondMapFault, mapFault, mapScan}
+use Rattle.cpumap.specs.answers.Path.{topologyName, noClusters, extend, clusterStep, clusterPath, socketStep, socketNumber, positionOf}
+use Rattle.cpumap.specs.steps.Position.{noPosition, positionStep}
+use Rattle.cpumap.specs.answers.Find.{mapOf, secondMapFault, mapFault, mapScan}
 
 -- a position from its parts
 abbrev both : ℕ → ClusterPath → Position
@@ -54,7 +55,7 @@ module _ (nodes pool : List ℕ) (i : ℕ) where
       ∙ sym (rw (lt-ltb i (nodeCount nodes) h, le-leb (nameOffset nodes i + nameLength nodes i) (length pool) near))
 
   -- a value by recursion on the parent, at a record with a parent
-  climb-is : {A : Type 0} (top : A) (step : ℕ → A → A) (p : ℕ) → parentOf nodes i ≡ Is p → step i (climb nodes top step p) ≡ climb nodes top step i
+  climb-is : {A : Type 0} (top : A) (step : ℕ → A → A) (p : ℕ) → parentOf nodes i ≡ Record p → step i (climb nodes top step p) ≡ climb nodes top step i
   climb-is top step p h =
       let at = parent-is nodes i p h in
       ap (λ (q : ℕ). step i (climb nodes top step q)) (sym (at .1)) ∙ climb-parent nodes top step i (at .0)
@@ -64,7 +65,7 @@ module _ (nodes pool : List ℕ) (i : ℕ) where
   unfolding clusterPath
   path-none h = climb-none nodes noClusters (λ j path. clusterStep (topologyName nodes pool j) path) i (parent-top nodes i h)
 
-  pub path-is : (p : ℕ) → parentOf nodes i ≡ Is p → clusterStep (topologyName nodes pool i) (clusterPath nodes pool p) ≡ clusterPath nodes pool i
+  pub path-is : (p : ℕ) → parentOf nodes i ≡ Record p → clusterStep (topologyName nodes pool i) (clusterPath nodes pool p) ≡ clusterPath nodes pool i
   unfolding clusterPath
   path-is p h = climb-is noClusters (λ j path. clusterStep (topologyName nodes pool j) path) p h
 
@@ -72,7 +73,7 @@ module _ (nodes pool : List ℕ) (i : ℕ) where
   unfolding socketNumber
   socket-none h = climb-none nodes gap (λ j socket. socketStep (topologyName nodes pool j) socket) i (parent-top nodes i h)
 
-  pub socket-is : (p : ℕ) → parentOf nodes i ≡ Is p → socketStep (topologyName nodes pool i) (socketNumber nodes pool p) ≡ socketNumber nodes pool i
+  pub socket-is : (p : ℕ) → parentOf nodes i ≡ Record p → socketStep (topologyName nodes pool i) (socketNumber nodes pool p) ≡ socketNumber nodes pool i
   unfolding socketNumber
   socket-is p h = climb-is gap (λ j socket. socketStep (topologyName nodes pool j) socket) p h
 
@@ -81,7 +82,7 @@ module _ (nodes pool : List ℕ) (i : ℕ) where
   unfolding positionOf
   position-none h = ap₂ both (socket-none h) (path-none h)
 
-  pub position-is : (p : ℕ) → parentOf nodes i ≡ Is p → positionStep (topologyName nodes pool i) (positionOf nodes pool p) ≡ positionOf nodes pool i
+  pub position-is : (p : ℕ) → parentOf nodes i ≡ Record p → positionStep (topologyName nodes pool i) (positionOf nodes pool p) ≡ positionOf nodes pool i
   unfolding positionOf
   position-is p h = ap₂ both (socket-is p h) (path-is p h)
 

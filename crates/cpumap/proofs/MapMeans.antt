@@ -6,18 +6,19 @@ use mathlib.Core.List.{List}
 use Prim.Native.Nat.{ℕ, _≤_, _<_}
 use native.Mathlib.Nat.{le-antisymm}
 use native.Mathlib.Omega.{arith}
-use Rattle.laws.specs.Search.{lowest}
+use Rattle.laws.specs.answers.Search.{lowest}
 use Rattle.laws.proofs.SearchLaws.{true-false, lt-or-le, lowest-below, lowest-passes}
 use Rattle.laws.proofs.DecideLaws.{Decides, decides-as, decides-not, then-decides}
-use Rattle.tables.specs.Board.{Board, nodeCount, nodeName, nameOffset, nameLength}
-use Rattle.tables.specs.Tree.{isBelow, Child, Ancestor}
-use Rattle.wellformed.specs.Rules.{WellFormed}
+use Rattle.tables.specs.facts.Board.{Board, nodeCount, nodeName, nameOffset, nameLength}
+use Rattle.tables.specs.answers.Tree.{isBelow}
+use Rattle.tables.specs.facts.Tree.{Child, Ancestor}
+use Rattle.wellformed.specs.facts.Rules.{WellFormed}
 use Rattle.tables.proofs.DepthLaws.{below-test, ancestor-earlier, ancestor-inside}
 use Rattle.wellformed.proofs.WellFormedLaws.{wf-name}
 use Rattle.tables.proofs.DecideLaws.{child-test, range-test}
-use Rattle.cpumap.specs.Words.{mapWord}
-use Rattle.cpumap.specs.Map.{Map, InMap, Outside, Leaf}
-use Rattle.cpumap.specs.Find.{isMapName, isMap, mapOf}
+use Rattle.tables.specs.facts.Binding.{mapWord}
+use Rattle.cpumap.specs.facts.Map.{Map, InMap, Outside, Leaf}
+use Rattle.cpumap.specs.answers.Find.{isMapName, isMap, mapOf}
 
 -- the ancestor test decides the relation
 pub ancestor-test : (nodes : List ℕ) (a i : ℕ) → Decides (isBelow nodes i a) (Ancestor nodes a i)

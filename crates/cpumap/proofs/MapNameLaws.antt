@@ -6,12 +6,13 @@ use Prim.Native.Nat.{ℕ, _+_, _<_}
 use native.Mathlib.Omega.{arith}
 use lib.Dec.{eqb}
 use lib.ListN.{getD}
-use Rattle.tables.specs.Board.{rangeIs, nameOffset, nameLength}
-use Rattle.tables.specs.Property.{cellAt}
+use Rattle.tables.specs.answers.Range.{rangeIs}
+use Rattle.tables.specs.facts.Board.{nameOffset, nameLength}
+use Rattle.tables.specs.answers.Lookup.{cellAt}
 use Rattle.tables.proofs.CodePool.{other-length}
-use Rattle.keys.proofs.RangeLaws.{two-cells}
-use Rattle.cpumap.specs.Words.{mapWord}
-use Rattle.cpumap.specs.Find.{isMapName}
+use Rattle.property_index.proofs.RangeLaws.{two-cells}
+use Rattle.tables.specs.facts.Binding.{mapWord}
+use Rattle.cpumap.specs.answers.Find.{isMapName}
 
 module _ (nodes pool : List ℕ) (i : ℕ) {len : ℕ} (l : len ≡ nameLength nodes i) where
   pub other-name : (len ≡ 7 → ⊥) → false ≡ isMapName nodes pool i

@@ -6,30 +6,31 @@ use mathlib.Core.List.{List, [], _∷_, _++_, map, map-append}
 use Prim.Native.Nat.{ℕ, _≤_, _<_, min}
 use native.Mathlib.Omega.{arith}
 use lib.ListN.{length, take, length-map}
-use Rattle.laws.specs.Listing.{Listing}
+use Rattle.laws.specs.facts.Listing.{Listing}
 use Rattle.laws.proofs.SearchLaws.{true-false}
 use Rattle.laws.proofs.AppendListingLaws.{listing-same, listing-none, listing-more}
-use Rattle.layout.specs.Row.{gap}
+use Rattle.layout.specs.facts.Row.{gap}
 use Rattle.names.specs.declared.TopologyName.{TopologyName}
 use Rattle.names.specs.declared.TopologyName.the-variants.{Socket, Cluster, Core, Thread, Other}
-use Rattle.names.specs.Kind.{Kind}
-use Rattle.tables.specs.Board.{Board, nodeCount, parentWord}
-use Rattle.tables.specs.Tree.{hasParent, climb, Child, Ancestor}
-use Rattle.wellformed.specs.Rules.{WellFormed}
+use Rattle.names.specs.facts.Kind.{Kind}
+use Rattle.tables.specs.facts.Board.{Board, nodeCount, parentWord}
+use Rattle.tables.specs.answers.Tree.{hasParent, climb}
+use Rattle.tables.specs.facts.Tree.{Child, Ancestor}
+use Rattle.wellformed.specs.facts.Rules.{WellFormed}
 use Rattle.tables.proofs.TreeLaws.{climb-none}
 use Rattle.tables.proofs.DepthLaws.{ancestor-earlier}
 use Rattle.wellformed.proofs.WellFormedLaws.{wf-depth}
 use Rattle.cpumap.specs.declared.ClusterPath.{ClusterPath}
-use Rattle.cpumap.specs.Map.{Is, ClusterAbove}
-use Rattle.cpumap.specs.Path.{topologyName, noClusters, extend, clusterStep, clusterPath}
-use Rattle.cpumap.specs.Number.{topologyNumber}
+use Rattle.cpumap.specs.facts.Map.{OfKind, ClusterAbove}
+use Rattle.cpumap.specs.answers.Path.{topologyName, noClusters, extend, clusterStep, clusterPath}
+use Rattle.cpumap.specs.answers.Number.{topologyNumber}
 use Rattle.cpumap.proofs.NameFacts.{Says, topology-says, kinds-apart}
 use Rattle.cpumap.proofs.WithinMeans.{Within, parent-induction, within-above, above-within, child-has, climb-child, within-le, top-zero}
 
 -- a is a cluster among record i and its ancestors
 pub record ClusterWithin (b : Board) (i a : ℕ) : Type 0 where
   pub within : Within (b .nodes) i a
-  pub is-cluster : Is b Kind.cluster a
+  pub is-cluster : OfKind b Kind.cluster a
 
 -- the clusters among record i and its ancestors, outermost first
 abbrev addCluster : TopologyName → ℕ → List ℕ → List ℕ
@@ -96,7 +97,7 @@ module _ (nodes pool : List ℕ) where
           climb nodes noClusters step i ≡ pathOf (map numberAt (climb nodes [] (clusterNext nodes pool) i))
       more p i c ih = rw (climb-child noClusters step c, climb-child [] (clusterNext nodes pool) c, ih) (one (topologyName nodes pool i) i _ refl)
 
-module _ (b : Board) (well : WellFormed b) (nameless : (kind : Kind) → Is b kind 0 → ⊥) where
+module _ (b : Board) (well : WellFormed b) (nameless : (kind : Kind) → OfKind b kind 0 → ⊥) where
   abbrev next : ℕ → List ℕ → List ℕ
   next = clusterNext (b .nodes) (b .pool)
 
@@ -110,7 +111,7 @@ module _ (b : Board) (well : WellFormed b) (nameless : (kind : Kind) → Is b ki
       down : (a : ℕ) → ClusterWithin b i a → (a ≡ i) ⊎ ClusterWithin b p a
       down a t = ⊎-elim inl (λ s. inr (record { within = above-within c s; is-cluster = t .is-cluster })) (t .within)
 
-      same : (Is b Kind.cluster i → ⊥) → Listing (ClusterWithin b i) l
+      same : (OfKind b Kind.cluster i → ⊥) → Listing (ClusterWithin b i) l
       same no-cluster = listing-same up (λ a t. ⊎-elim (λ e. absurd (no-cluster (rw e at (t .is-cluster)))) (λ r. r) (down a t)) h
 
       go : {x : TopologyName} → Says b i x → Listing (ClusterWithin b i) (addCluster x i l)

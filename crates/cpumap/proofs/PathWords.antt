@@ -6,19 +6,19 @@ use Prim.Native.Nat.{ℕ, zero, suc, _+_, _-_, _≤_, _<_}
 use native.Mathlib.Omega.{arith}
 use lib.ListN.{length, getD, take, replicate, length-map, getD-replicate, List·getD-append}
 use lib.Seq.{getD-take, getD-append-add, length-take-le}
-use Rattle.laws.specs.Listing.{Member, Listing}
+use Rattle.laws.specs.facts.Listing.{Member, Listing}
 use Rattle.laws.proofs.SearchLaws.{lt-or-le}
 use Rattle.laws.proofs.ListingLaws.{listing-unique}
 use Rattle.laws.proofs.AppendListingLaws.{listing-same, listing-take}
-use Rattle.layout.specs.Row.{gap}
-use Rattle.names.specs.Kind.{Kind, Named}
-use Rattle.tables.specs.Board.{Board, nodeCount, nodeName}
-use Rattle.wellformed.specs.Rules.{WellFormed}
+use Rattle.layout.specs.facts.Row.{gap}
+use Rattle.names.specs.facts.Kind.{Kind, Named}
+use Rattle.tables.specs.facts.Board.{Board, nodeCount, nodeName}
+use Rattle.wellformed.specs.facts.Rules.{WellFormed}
 use Rattle.tables.proofs.DepthLaws.{ancestor-earlier}
 use Rattle.cpumap.specs.declared.ClusterPath.{ClusterPath}
-use Rattle.cpumap.specs.Map.{Is, ClusterAbove}
-use Rattle.cpumap.specs.Path.{clusterPath}
-use Rattle.cpumap.specs.Number.{topologyNumber}
+use Rattle.cpumap.specs.facts.Map.{OfKind, ClusterAbove}
+use Rattle.cpumap.specs.answers.Path.{clusterPath}
+use Rattle.cpumap.specs.answers.Number.{topologyNumber}
 use Rattle.cpumap.proofs.NameFacts.{topology-is}
 use Rattle.cpumap.proofs.WithinMeans.{within-trans, within-order, within-le}
 use Rattle.cpumap.proofs.PathMeans.{ClusterWithin, clustersWithin, pathOf, numberAt, path-is, within-listing}
@@ -57,14 +57,14 @@ pub data PathWord (b : Board) (i d : ℕ) : ℕ → Type 0 where
       PathWord b i d gap
 
 -- of a record that is no cluster, the clusters are those above it
-module _ (b : Board) (i : ℕ) (no-cluster : Is b Kind.cluster i → ⊥) where
+module _ (b : Board) (i : ℕ) (no-cluster : OfKind b Kind.cluster i → ⊥) where
   pub cluster-above : (c : ℕ) → ClusterWithin b i c → ClusterAbove b i c
   cluster-above c t = record { ancestor = ⊎-elim (λ e. absurd (no-cluster (rw e at (t .is-cluster)))) (λ s. s) (t .within); is-cluster = t .is-cluster }
 
   pub above-cluster : (c : ℕ) → ClusterAbove b i c → ClusterWithin b i c
   above-cluster c t = record { within = inr (t .ancestor); is-cluster = t .is-cluster }
 
-module _ (b : Board) (well : WellFormed b) (nameless : (kind : Kind) → Is b kind 0 → ⊥) (i : ℕ) (inside : i < nodeCount (b .nodes)) where
+module _ (b : Board) (well : WellFormed b) (nameless : (kind : Kind) → OfKind b kind 0 → ⊥) (i : ℕ) (inside : i < nodeCount (b .nodes)) where
   abbrev list : List ℕ
   list = clustersWithin (b .nodes) (b .pool) i
 

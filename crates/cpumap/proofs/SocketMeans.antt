@@ -5,18 +5,19 @@ use mathlib.Core.Logic.{inl, inr, ⊎-elim}
 use Prim.Native.Nat.{ℕ, _≤_, _<_}
 use native.Mathlib.Nat.{le-antisymm}
 use native.Mathlib.Omega.{arith}
-use Rattle.layout.specs.Row.{gap}
+use Rattle.layout.specs.facts.Row.{gap}
 use Rattle.names.specs.declared.TopologyName.{TopologyName}
-use Rattle.names.specs.Kind.{Kind, Named}
+use Rattle.names.specs.facts.Kind.{Kind, Named}
 use Rattle.names.proofs.NameMeans.{named-unique}
-use Rattle.tables.specs.Board.{Board, nodeCount, nodeName}
-use Rattle.tables.specs.Tree.{hasParent, climb, Child}
-use Rattle.wellformed.specs.Rules.{WellFormed}
+use Rattle.tables.specs.facts.Board.{Board, nodeCount, nodeName}
+use Rattle.tables.specs.answers.Tree.{hasParent, climb}
+use Rattle.tables.specs.facts.Tree.{Child}
+use Rattle.wellformed.specs.facts.Rules.{WellFormed}
 use Rattle.tables.proofs.TreeLaws.{climb-none}
 use Rattle.tables.proofs.DepthLaws.{ancestor-earlier}
 use Rattle.wellformed.proofs.WellFormedLaws.{wf-depth}
-use Rattle.cpumap.specs.Map.{Is}
-use Rattle.cpumap.specs.Path.{topologyName, socketStep, socketNumber}
+use Rattle.cpumap.specs.facts.Map.{OfKind}
+use Rattle.cpumap.specs.answers.Path.{topologyName, socketStep, socketNumber}
 use Rattle.cpumap.proofs.NameFacts.{Says, topology-says, kinds-apart}
 use Rattle.cpumap.proofs.WithinMeans.{Within, parent-induction, within-above, above-within, climb-child, within-le, top-zero}
 
@@ -26,9 +27,9 @@ pub data SocketWithin (b : Board) (i : ℕ) : ℕ → Type 0 where
       (s n : ℕ) →
       Within (b .nodes) i s →
       Named (nodeName b s) Kind.socket n →
-      ((t : ℕ) → Within (b .nodes) i t → Is b Kind.socket t → t ≤ s) →
+      ((t : ℕ) → Within (b .nodes) i t → OfKind b Kind.socket t → t ≤ s) →
       SocketWithin b i n
-  noSocket : ((s : ℕ) → Within (b .nodes) i s → Is b Kind.socket s → ⊥) → SocketWithin b i gap
+  noSocket : ((s : ℕ) → Within (b .nodes) i s → OfKind b Kind.socket s → ⊥) → SocketWithin b i gap
 
 -- there is one such number
 pub socket-unique : {b : Board} {i v w : ℕ} → SocketWithin b i v → SocketWithin b i w → v ≡ w
@@ -41,10 +42,10 @@ socket-unique (SocketWithin.noSocket none) (SocketWithin.noSocket no-other) = re
 
 module _ (b : Board) where
   -- a record that is no socket has its parent's
-  child-socket : {v p i : ℕ} → Child (b .nodes) p i → (Is b Kind.socket i → ⊥) → SocketWithin b p v → SocketWithin b i v
+  child-socket : {v p i : ℕ} → Child (b .nodes) p i → (OfKind b Kind.socket i → ⊥) → SocketWithin b p v → SocketWithin b i v
   child-socket {v} {p} {i} c other w = go w
     where
-      down : (t : ℕ) → Within (b .nodes) i t → Is b Kind.socket t → Within (b .nodes) p t
+      down : (t : ℕ) → Within (b .nodes) i t → OfKind b Kind.socket t → Within (b .nodes) p t
       down t at is = ⊎-elim (λ e. absurd (other (rw e at is))) (above-within c) at
 
       go : {v : ℕ} → SocketWithin b p v → SocketWithin b i v
@@ -58,7 +59,7 @@ module _ (b : Board) where
   says-socket {i = i} (Says.thread n q) c w = child-socket c (λ t. kinds-apart b i Kind.socket Kind.thread (λ z. omega arith) t (n, q)) w
   says-socket (Says.other none) c w = child-socket c (none Kind.socket) w
 
-module _ (b : Board) (well : WellFormed b) (nameless : (kind : Kind) → Is b kind 0 → ⊥) where
+module _ (b : Board) (well : WellFormed b) (nameless : (kind : Kind) → OfKind b kind 0 → ⊥) where
   pub socket-word : (i : ℕ) → i < nodeCount (b .nodes) → SocketWithin b i (socketNumber (b .nodes) (b .pool) i)
   unfolding socketNumber
   socket-word = parent-induction (λ (i : ℕ). i < nodeCount (b .nodes) → SocketWithin b i (climb (b .nodes) gap step i)) top more
@@ -66,7 +67,7 @@ module _ (b : Board) (well : WellFormed b) (nameless : (kind : Kind) → Is b ki
       step : ℕ → ℕ → ℕ
       step i socket = socketStep (topologyName (b .nodes) (b .pool) i) socket
 
-      root : (s : ℕ) → Within (b .nodes) 0 s → Is b Kind.socket s → ⊥
+      root : (s : ℕ) → Within (b .nodes) 0 s → OfKind b Kind.socket s → ⊥
       root s at is = ⊎-elim (λ e. nameless Kind.socket (rw e at is)) (λ t. let l = ancestor-earlier t in omega arith) at
 
       top : (i : ℕ) → hasParent (b .nodes) i ≡ false → i < nodeCount (b .nodes) → SocketWithin b i (climb (b .nodes) gap step i)

@@ -6,8 +6,9 @@ use mathlib.Core.List.{List}
 use Prim.Native.Nat.{ℕ, zero, suc, _≤_, _<_}
 use native.Mathlib.Omega.{arith}
 use Rattle.laws.proofs.SearchLaws.{true-false}
-use Rattle.tables.specs.Board.{nodeCount, parentWord}
-use Rattle.tables.specs.Tree.{hasParent, climb, Child, Ancestor}
+use Rattle.tables.specs.facts.Board.{nodeCount, parentWord}
+use Rattle.tables.specs.answers.Tree.{hasParent, climb}
+use Rattle.tables.specs.facts.Tree.{Child, Ancestor}
 use Rattle.tables.proofs.TreeLaws.{has, the-parent, climb-parent}
 use Rattle.tables.proofs.DepthLaws.{DepthFirst, ancestor-earlier, ancestor-cases, ancestor-chain, ancestor-trans, has-parent}
 

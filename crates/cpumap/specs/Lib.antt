@@ -1,6 +1,4 @@
 -- What the contracts of `cpumap` cite, and the facts about the cpu map that its rules and the rows are stated in.
-pub mod Words
-pub mod Map
-pub mod Path
-pub mod Number
-pub mod Find
+pub mod facts
+pub mod answers
+pub mod steps

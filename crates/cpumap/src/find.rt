@@ -1,15 +1,15 @@
 // Finding the map: rules 15 and 16.
 use crate::MapScan;
 use laws::Fault;
-use laws::NO_MAP;
-use laws::SECOND_MAP;
+use laws::rules;
+use tables::binding;
 use tables::cell_at;
 use tables::is_child;
 use tables::node_word;
 ghost use mathlib.Core.Path.{_≡_};
-ghost use Rattle.laws.specs.Fault.{firstFault};
-ghost use Rattle.tables.specs.Board.{nodeCount};
-ghost use Rattle.cpumap.specs.Find.{isMapName, isMap, mapOf, secondMapFault, mapScan};
+ghost use Rattle.laws.specs.answers.Fault.{firstFault};
+ghost use Rattle.tables.specs.facts.Board.{nodeCount};
+ghost use Rattle.cpumap.specs.answers.Find.{isMapName, isMap, mapOf, secondMapFault, mapScan};
 
 // Whether record i is named `cpu-map`: seven bytes, by the cells at their start and at their end.
 fn is_map_name(nodes: &[u32], pool: &[u8], i: usize) -> bool
@@ -19,10 +19,10 @@ fn is_map_name(nodes: &[u32], pool: &[u8], i: usize) -> bool
         return false;
     }
     let offset = node_word(nodes, i, 1);
-    if cell_at(pool, offset) != 0x6370752d {
+    if cell_at(pool, offset) != binding::CPU_MAP_START {
         return false;
     }
-    cell_at(pool, offset + 3) == 0x2d6d6170
+    cell_at(pool, offset + 3) == binding::CPU_MAP_END
 }
 
 // Whether record i is a child of record 0 named `cpu-map`.
@@ -59,7 +59,7 @@ fn second_map_fault(nodes: &[u32], pool: &[u8], map: usize, i: usize) -> u32
         if i == map {
             return 0;
         }
-        return SECOND_MAP;
+        return rules::CPU_MAP_DUPLICATE;
     }
     0
 }
@@ -93,7 +93,7 @@ pub fn find_map(nodes: &[u32], pool: &[u8]) -> MapScan
     let map = lowest_map(nodes, pool);
     if nodes.len() / 3 <= map {
         return MapScan {
-            number: NO_MAP,
+            number: rules::CPU_MAP_MISSING,
             place: 0,
             map: 0,
         };

@@ -1,7 +1,7 @@
 // A topology name's kind and number, as numbers.
 use names::TopologyName;
 ghost use mathlib.Core.Path.{_≡_};
-ghost use Rattle.cpumap.specs.Number.{kindNumber, topologyNumber};
+ghost use Rattle.cpumap.specs.answers.Number.{kindNumber, topologyNumber};
 
 // A kind as a number, from 1; 0 for Other.
 pub fn kind_number(name: TopologyName) -> u32

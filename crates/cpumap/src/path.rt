@@ -5,7 +5,7 @@ use names::TopologyName;
 use names::name_of;
 use tables::node_word;
 ghost use mathlib.Core.Path.{_≡_};
-ghost use Rattle.cpumap.specs.Path.{topologyName, noClusters, extend, clusterStep};
+ghost use Rattle.cpumap.specs.answers.Path.{topologyName, noClusters, extend, clusterStep};
 
 // What record i's name says. Other where it is no record or its name leaves the pool.
 pub fn topology_name(nodes: &[u32], pool: &[u8], i: usize) -> TopologyName

@@ -8,7 +8,8 @@ use names::TopologyName;
 use tables::Parent;
 use tables::parent_of;
 ghost use mathlib.Core.Path.{_≡_};
-ghost use Rattle.cpumap.specs.Path.{socketStep, noPosition, positionStep, positionOf};
+ghost use Rattle.cpumap.specs.answers.Path.{socketStep, positionOf};
+ghost use Rattle.cpumap.specs.steps.Position.{noPosition, positionStep};
 
 // A record's socket, from its name and its parent's socket.
 fn socket_step(name: TopologyName, above: u32) -> u32
@@ -48,7 +49,7 @@ pub fn position_of(nodes: &[u32], pool: &[u8], i: usize) -> Position
     ensures { λ r. ⌜ r ≡ positionOf (now (nodes .entry)) (now (pool .entry)) i ⌝ }
 {
     let parent = parent_of(nodes, i);
-    let Parent::Is(p) = parent else {
+    let Parent::Record(p) = parent else {
         return no_position();
     };
     position_step(topology_name(nodes, pool, i), position_of(nodes, pool, p))

@@ -4,12 +4,12 @@ use mathlib.Core.Logic.{⊎-elim}
 use Prim.Native.Nat.{ℕ, _<_}
 use Rattle.laws.proofs.FirstLaws.{compared}
 use Rattle.laws.proofs.VerdictLaws.{held}
-use Rattle.tables.specs.Board.{Board, Typed}
-use Rattle.wellformed.specs.Rules.{WellFormed}
-use Rattle.cpus.specs.declared.Reading.{Reading}
-use Rattle.cpus.specs.Node.{Cpu, Reg, mpidr, Phandle}
-use Rattle.cpus.specs.Rules.{CpuRule, SoundCpus, PhandleRule, SoundPhandles}
-use Rattle.cpus.specs.Check.{mpidrAt, phandleReadings}
+use Rattle.tables.specs.facts.Board.{Board, WordSized}
+use Rattle.wellformed.specs.facts.Rules.{WellFormed}
+use Rattle.cpus.specs.declared.CpuReading.{CpuReading}
+use Rattle.cpus.specs.facts.Node.{Cpu, Reg, mpidr, Phandle}
+use Rattle.cpus.specs.facts.Rules.{CpuRule, SoundCpus, PhandleRule, SoundPhandles}
+use Rattle.cpus.specs.answers.Check.{mpidrAt, phandleReadings}
 use Rattle.cpus.proofs.RegMeans.{reg-bounds, value-reg, MpidrSays, mpidr-says, PhandleSays, phandle-says}
 use Rattle.cpus.proofs.PairMeans.{mpidr-apart}
 use Rattle.cpus.proofs.FaultMeans.{Root, CountRange, root-told, count-told}
@@ -18,30 +18,30 @@ use Rattle.cpus.proofs.FaultMeans.{Root, CountRange, root-told, count-t
 same-record : (i j : ℕ) → (j < i → ⊥) → (i < j → ⊥) → i ≡ j
 same-record i j f g = ⊎-elim (λ lt. absurd (g lt)) (⊎-elim (λ e. e) (λ lt. absurd (f lt))) (compared i j)
 
-module _ {b : Board} (typed : Typed b) (well : WellFormed b) where
+module _ {b : Board} (sized : WordSized b) (well : WellFormed b) where
   module _ (sound : SoundCpus b) where
     -- `/cpus` itself, and the number of cpu records
     pub root-given : Root b
-    root-given = held (root-told typed well) (sound 9 0)
+    root-given = held (root-told sized well) (sound 9 0)
 
     pub count-range : CountRange b
-    count-range = held (count-told typed well) (sound 10 0)
+    count-range = held (count-told sized well) (sound 10 0)
 
     -- each cpu record has a `reg`, which is its MPIDR ..
     pub cpu-reg : {i : ℕ} → Cpu b i → (u : ℕ) × (l : ℕ) × Reg b i u l × (mpidrAt b i ≡ mpidr u l)
-    cpu-reg {i} c = go (mpidr-says typed well i (root-given .cells))
+    cpu-reg {i} c = go (mpidr-says sized well i (root-given .cells))
       where
-        go : {q : Reading} → MpidrSays b i q → (u : ℕ) × (l : ℕ) × Reg b i u l × (q .value ≡ mpidr u l)
+        go : {q : CpuReading} → MpidrSays b i q → (u : ℕ) × (l : ℕ) × Reg b i u l × (q .value ≡ mpidr u l)
         go (MpidrSays.reg {u = u} {l = l} _ r e) = (u, l, r, e)
-        go (MpidrSays.untyped f) = absurd (sound 11 i (CpuRule.deviceType i c f))
-        go (MpidrSays.unread _ f) = absurd (sound 12 i (CpuRule.reg i c f))
+        go (MpidrSays.untyped f) = absurd (sound 11 i (CpuRule.cpuDeviceType i c f))
+        go (MpidrSays.unread _ f) = absurd (sound 12 i (CpuRule.cpuReg i c f))
 
     -- .. and no other cpu record has the same
     pub reg-apart : {i j u l : ℕ} → Cpu b i → Cpu b j → Reg b i u l → Reg b j u l → i ≡ j
     reg-apart {i} {j} c d r s = same-record i j (later c d r s) (later d c s r)
       where
         later : {i j u l : ℕ} → Cpu b i → Cpu b j → Reg b i u l → Reg b j u l → j < i → ⊥
-        later {i} {j} c d r s lt = let t = value-reg well r s in sound 13 i (CpuRule.repeatedReg i j (t .0) c d lt (t .1) (t .2))
+        later {i} {j} c d r s lt = let t = value-reg well r s in sound 13 i (CpuRule.duplicateCpuReg i j (t .0) c d lt (t .1) (t .2))
 
     pub mpidr-distinct : {i j : ℕ} → Cpu b i → Cpu b j → mpidrAt b i ≡ mpidrAt b j → i ≡ j
     mpidr-distinct c d e =
@@ -55,18 +55,18 @@ module _ {b : Board} (typed : Typed b) (well : WellFormed b) where
   module _ (sound : SoundPhandles b) where
     -- each cpu record has a phandle ..
     pub cpu-phandle : {i : ℕ} → Cpu b i → Phandle b i (phandleReadings b i .value)
-    cpu-phandle {i} c = go (phandle-says typed well i)
+    cpu-phandle {i} c = go (phandle-says sized well i)
       where
-        go : {q : Reading} → PhandleSays b i q → Phandle b i (q .value)
+        go : {q : CpuReading} → PhandleSays b i q → Phandle b i (q .value)
         go (PhandleSays.phandle p) = p
-        go (PhandleSays.none f) = absurd (sound 17 i (PhandleRule.phandle i c f))
+        go (PhandleSays.none f) = absurd (sound 17 i (PhandleRule.cpuPhandle i c f))
 
     -- .. and no other cpu record has the same
     pub phandle-apart : {i j h : ℕ} → Cpu b i → Cpu b j → Phandle b i h → Phandle b j h → i ≡ j
     phandle-apart {i} {j} c d p q = same-record i j (later c d p q) (later d c q p)
       where
         later : {i j h : ℕ} → Cpu b i → Cpu b j → Phandle b i h → Phandle b j h → j < i → ⊥
-        later {i} {j} {h} c d p q lt = sound 17 i (PhandleRule.repeatedPhandle i j h c d lt p q)
+        later {i} {j} {h} c d p q lt = sound 17 i (PhandleRule.cpuPhandleTaken i j h c d lt p q)
 
     pub phandle-distinct : {i j : ℕ} → Cpu b i → Cpu b j → phandleReadings b i .value ≡ phandleReadings b j .value → i ≡ j
     phandle-distinct c d e = phandle-apart c d (cpu-phandle c) (rw (sym e) at (cpu-phandle d))

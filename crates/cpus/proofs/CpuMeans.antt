@@ -9,18 +9,19 @@ use lib.Dec.{eqb, ltb}
 use lib.ListN.{length, take, drop, length-take, length-append}
 use lib.Seq.{take-take, take-add, take-append-seam}
 use borrow.Author.Tests.{ltb-false}
-use Rattle.laws.specs.Listing.{Listing}
+use Rattle.laws.specs.facts.Listing.{Listing}
 use Rattle.laws.proofs.SearchLaws.{lt-or-le, list-length}
 use Rattle.laws.proofs.ListingLaws.{listed}
 use Rattle.laws.proofs.DecideLaws.{Decides, decides-as, lt-decides, then-decides, either-decides, without-decides}
-use Rattle.tables.specs.Board.{Board, Inside, rangeIs, nodeCount, nodeName, nameOffset, nameLength}
-use Rattle.wellformed.specs.Rules.{WellFormed}
+use Rattle.tables.specs.facts.Board.{Board, Inside, nodeCount, nodeName, nameOffset, nameLength}
+use Rattle.tables.specs.answers.Range.{rangeIs}
+use Rattle.wellformed.specs.facts.Rules.{WellFormed}
 use Rattle.tables.proofs.DecideLaws.{child-test, range-decides, range-test}
 use Rattle.wellformed.proofs.WellFormedLaws.{wf-name}
-use Rattle.cpus.specs.Words.{cpuWord, cpuUnit}
-use Rattle.cpus.specs.Node.{Begins, Cpu}
-use Rattle.cpus.specs.Rules.{maxCpus}
-use Rattle.cpus.specs.Check.{isCpuName, isCpu, cpuCount, countFault, cpuList}
+use Rattle.tables.specs.facts.Binding.{cpuWord, cpuUnit}
+use Rattle.cpus.specs.facts.Node.{Begins, Cpu}
+use Rattle.laws.specs.facts.Limits.{maxCpus}
+use Rattle.cpus.specs.answers.Check.{isCpuName, isCpu, cpuCount, countFault, cpuList}
 
 -- a range of the pool begins with given bytes where its first part is these bytes
 module _ (l start : List ℕ) (len : ℕ) where

@@ -2,16 +2,16 @@
 use mathlib.Core.Path.{_≡_, refl}
 use Prim.Native.Nat.{ℕ, _≤_}
 use native.Mathlib.Omega.{arith}
-use Rattle.laws.specs.Fault.{told, orElse, firstFault}
+use Rattle.laws.specs.answers.Fault.{told, orElse, firstFault}
 use Rattle.laws.proofs.FaultLaws.{place-le}
 use Rattle.laws.proofs.FirstLaws.{NoneIn, Tells, Stage, stage-tells}
 use Rattle.laws.proofs.RuleStageLaws.{told-place, else-place, then-tells}
 use Rattle.laws.proofs.VerdictLaws.{held, number-stage, once-tells}
-use Rattle.tables.specs.Board.{Board, Typed, nodeCount}
-use Rattle.wellformed.specs.Order.{stage}
-use Rattle.wellformed.specs.Rules.{WellFormed}
-use Rattle.cpus.specs.Rules.{CpuRule, SoundCpus, PhandleRule, SoundPhandles}
-use Rattle.cpus.specs.Check.{isCpu, rootFault, cpuCount, countFault, mpidrReadings, phandleReadings, cpuFault, cpusFault, phandlesFault}
+use Rattle.tables.specs.facts.Board.{Board, WordSized, nodeCount}
+use Rattle.wellformed.specs.facts.Order.{stage}
+use Rattle.wellformed.specs.facts.Rules.{WellFormed}
+use Rattle.cpus.specs.facts.Rules.{CpuRule, SoundCpus, PhandleRule, SoundPhandles}
+use Rattle.cpus.specs.answers.Check.{isCpu, rootFault, cpuCount, countFault, mpidrReadings, phandleReadings, cpuFault, cpusFault, phandlesFault}
 use Rattle.cpus.proofs.ScanLaws.{first-gathered}
 use Rattle.cpus.proofs.RegMeans.{CellsRead, value-reg}
 use Rattle.cpus.proofs.FaultMeans.{CpuSays, OwnPhandle, cpuFaultAt, phandleFaultAt, root-told, count-told, cpu-says, phandle-told}
@@ -25,22 +25,22 @@ module _ (b : Board) where
   phandle-places : phandlesFault b ≡ firstFault (phandleFaultAt b) (nodeCount (b .nodes))
   phandle-places = first-gathered (isCpu (b .nodes) (b .pool)) (phandleReadings b) 17 (nodeCount (b .nodes))
 
-module _ {b : Board} (typed : Typed b) (well : WellFormed b) where
+module _ {b : Board} (sized : WordSized b) (well : WellFormed b) where
   cpu-stage : CellsRead b → Stage stage (CpuRule b) (stage 11) (nodeCount (b .nodes)) (cpuFaultAt b)
   cpu-stage a =
       record {
         inside = λ m q r e. cpu-broken well (rw e at (staged r)) .0;
-        sound = λ q _ none. broken (cpu-says typed well a q none);
-        least = λ q _ none m r e. cpu-broken well (rw e at (staged r)) .1 (cpuFaultAt b q) (cpu-says typed well a q none);
+        sound = λ q _ none. broken (cpu-says sized well a q none);
+        least = λ q _ none m r e. cpu-broken well (rw e at (staged r)) .1 (cpuFaultAt b q) (cpu-says sized well a q none);
       }
     where
       broken : {q v : ℕ} → CpuSays b q v → (v ≡ 0 → ⊥) → CpuRule b v q × (stage v ≡ stage 11)
       broken (CpuSays.other _) ne = absurd (ne refl)
-      broken {q} (CpuSays.untyped c f) ne = (CpuRule.deviceType q c f, refl)
-      broken {q} (CpuSays.unread c _ f) ne = (CpuRule.reg q c f, refl)
+      broken {q} (CpuSays.untyped c f) ne = (CpuRule.cpuDeviceType q c f, refl)
+      broken {q} (CpuSays.unread c _ f) ne = (CpuRule.cpuReg q c f, refl)
       broken {q} (CpuSays.repeated {j = j} c _ r lt d s) ne =
           let t = value-reg well r s in
-          (CpuRule.repeatedReg q j (t .0) c d lt (t .1) (t .2), refl)
+          (CpuRule.duplicateCpuReg q j (t .0) c d lt (t .1) (t .2), refl)
       broken (CpuSays.sound _ _ _ _) ne = absurd (ne refl)
 
   -- rules 9 to 13, in their three stages
@@ -48,19 +48,19 @@ module _ {b : Board} (typed : Typed b) (well : WellFormed b) where
   unfolding cpusFault
   cpus-tells =
       then-tells stage (CpuRule b) (omega arith) (omega arith)
-      (once-tells stage (CpuRule b) 9 (omega arith) (λ m q r e. root-broken well (rw e at (staged r))) (root-told typed well)) λ none.
+      (once-tells stage (CpuRule b) 9 (omega arith) (λ m q r e. root-broken well (rw e at (staged r))) (root-told sized well)) λ none.
       then-tells stage (CpuRule b) (omega arith) (omega arith)
-      (once-tells stage (CpuRule b) 10 (omega arith) (λ m q r e. count-broken well (rw e at (staged r))) (count-told typed well)) λ _.
+      (once-tells stage (CpuRule b) 10 (omega arith) (λ m q r e. count-broken well (rw e at (staged r))) (count-told sized well)) λ _.
       rw (cpu-places b)
       (stage-tells stage (CpuRule b) (stage 11) (nodeCount (b .nodes)) (cpuFaultAt b)
-      (cpu-stage (held (root-told typed well) (λ r. none 9 0 (r, omega arith, omega arith)) .cells)))
+      (cpu-stage (held (root-told sized well) (λ r. none 9 0 (r, omega arith, omega arith)) .cells)))
 
   -- rule 17
   pub phandles-tells : Tells stage (PhandleRule b) (stage 17) (stage 18) (phandlesFault b)
   phandles-tells =
       rw (phandle-places b)
       (stage-tells stage (PhandleRule b) (stage 17) (nodeCount (b .nodes)) (phandleFaultAt b)
-      (number-stage stage (PhandleRule b) 17 (omega arith) (OwnPhandle b) (λ m q r _. phandle-broken well r) (λ q _. phandle-told typed well q)))
+      (number-stage stage (PhandleRule b) 17 (omega arith) (OwnPhandle b) (λ m q r _. phandle-broken well r) (λ q _. phandle-told sized well q)))
 
 -- where nothing is told the cpu nodes and the phandles are sound
 module _ {b : Board} where

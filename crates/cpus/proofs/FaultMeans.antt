@@ -7,22 +7,23 @@ use lib.Dec.{eqb, ltb}
 use borrow.Author.Tests.{eqb-true, eqb-false, ltb-true, ltb-false}
 use Rattle.laws.proofs.DecideLaws.{Decides, decides-not, decides-as, eq-decides}
 use Rattle.laws.proofs.VerdictLaws.{Verdict}
-use Rattle.tables.specs.Board.{Board, Typed, rangeIs, nodeName, nameOffset, nameLength}
-use Rattle.tables.specs.Property.{HasValue}
-use Rattle.wellformed.specs.Rules.{WellFormed}
+use Rattle.tables.specs.facts.Board.{Board, WordSized, nodeName, nameOffset, nameLength}
+use Rattle.tables.specs.answers.Range.{rangeIs}
+use Rattle.tables.specs.facts.Property.{HasValue}
+use Rattle.wellformed.specs.facts.Rules.{WellFormed}
 use Rattle.wellformed.proofs.WellFormedLaws.{wf-nodes, wf-name}
 use Rattle.cpus.specs.declared.Cells.{Cells}
 use Rattle.cpus.specs.declared.RootCells.{RootCells}
 use Rattle.cpus.specs.declared.RootCells.the-variants.{Broken}
-use Rattle.keys.specs.Key.{deviceTypeKey}
-use Rattle.cpus.specs.Words.{cpusWord, cpuString, sizeCellsKey}
-use Rattle.cpus.specs.Node.{Cpu, AddressCells, SizeCells, Reg, mpidr, Phandle}
-use Rattle.cpus.specs.Rules.{maxCpus, CpuRule, PhandleRule}
-use Rattle.cpus.specs.Cell.{cellOf, isNumber}
-use Rattle.cpus.specs.declared.Reading.{Reading}
-use Rattle.cpus.specs.Gather.{unlessSeen}
-use Rattle.cpus.specs.Check.{soundCells, rootNumber, rootFault, cellsOf, regCells}
-use Rattle.cpus.specs.Check.{isCpu, cpuCount, cpuList, countFault, mpidrReadings, phandleReadings}
+use Rattle.tables.specs.facts.Binding.{deviceTypeKey, cpusWord, cpuString, sizeCellsKey}
+use Rattle.cpus.specs.facts.Node.{Cpu, AddressCells, SizeCells, Reg, mpidr, Phandle}
+use Rattle.laws.specs.facts.Limits.{maxCpus}
+use Rattle.cpus.specs.facts.Rules.{CpuRule, PhandleRule}
+use Rattle.cpus.specs.answers.Cell.{cellOf, isNumber}
+use Rattle.cpus.specs.declared.CpuReading.{CpuReading}
+use Rattle.cpus.specs.answers.Numbers.{unlessSeen}
+use Rattle.cpus.specs.answers.Check.{soundCells, rootNumber, rootFault, cellsOf, regCells, isCpu, cpuCount, cpuList, countFault, mpidrReadings}
+use Rattle.cpus.specs.answers.Check.{phandleReadings}
 use Rattle.cpus.proofs.ScanLaws.{gatherFault, seen-decides}
 use Rattle.tables.proofs.DecideLaws.{range-test}
 use Rattle.cpus.proofs.CpuMeans.{cpu-test, cpu-listing, cpu-count}
@@ -63,7 +64,7 @@ cpuFaultAt b = gatherFault (isCpu (b .nodes) (b .pool)) (mpidrReadings b) 13
 abbrev pub phandleFaultAt : Board → ℕ → ℕ
 phandleFaultAt b = gatherFault (isCpu (b .nodes) (b .pool)) (phandleReadings b) 17
 
-module _ {b : Board} (typed : Typed b) (well : WellFormed b) where
+module _ {b : Board} (sized : WordSized b) (well : WellFormed b) where
   pub root-told : Verdict (CpuRule b) 9 0 (Root b) (rootFault b)
   unfolding soundCells
   root-told =
@@ -71,8 +72,8 @@ module _ {b : Board} (typed : Typed b) (well : WellFormed b) where
       (rangeIs (b .pool) (nameOffset (b .nodes) 0) (nameLength (b .nodes) 0) cpusWord)
       (range-test (b .pool) (nameOffset (b .nodes) 0) (nameLength (b .nodes) 0) cpusWord (wf-name well 0 (wf-nodes well .0) .inside))
       (isNumber (cellOf (b .props) (b .pool) 0 sizeCellsKey) 0)
-      (number-test typed well 0 sizeCellsKey 0 (omega arith))
-      (cells-say typed well)
+      (number-test sized well 0 sizeCellsKey 0 (omega arith))
+      (cells-say sized well)
     where
       go :
           (t : Bool) →
@@ -82,9 +83,9 @@ module _ {b : Board} (typed : Typed b) (well : WellFormed b) where
           {r : RootCells} →
           CellsSay b r →
           Verdict (CpuRule b) 9 0 (RootAt b (cellsOf (cond t (cond s r Broken) Broken))) (rootNumber (cond t (cond s r Broken) Broken))
-      go false name s size say = Verdict.broken (CpuRule.notCpus (decides-not name .0 refl))
-      go true name false size say = Verdict.broken (CpuRule.sizeCells (decides-not size .0 refl))
-      go true name true size (CellsSay.none f) = Verdict.broken (CpuRule.addressCells f)
+      go false name s size say = Verdict.broken (CpuRule.cpusNodeName (decides-not name .0 refl))
+      go true name false size say = Verdict.broken (CpuRule.cpusNodeSizeCells (decides-not size .0 refl))
+      go true name true size (CellsSay.none f) = Verdict.broken (CpuRule.cpusNodeAddressCells f)
       go true name true size (CellsSay.cells a) = Verdict.sound (record { name = name .0 refl; cells = a; size = size .0 refl })
 
   pub count-told : Verdict (CpuRule b) 10 0 (CountRange b) (countFault (cpuCount b))
@@ -98,10 +99,10 @@ module _ {b : Board} (typed : Typed b) (well : WellFormed b) where
           Verdict (CpuRule b) 10 0 (CountRange b) (cond t 10 (cond s 10 0))
       go true e s f =
           let z = eqb-true (cpuCount b) 0 e in
-          Verdict.broken (CpuRule.noCpus (λ i c. let m = cpu-listing well .all i c in omega (arith, m .inside, cpu-count b)))
+          Verdict.broken (CpuRule.cpuCountNone (λ i c. let m = cpu-listing well .all i c in omega (arith, m .inside, cpu-count b)))
       go false e true f =
           let lt = ltb-true maxCpus (cpuCount b) f in
-          Verdict.broken (CpuRule.manyCpus (cpuList b) (cpu-listing well) (omega (arith, cpu-count b)))
+          Verdict.broken (CpuRule.cpuCountMany (cpuList b) (cpu-listing well) (omega (arith, cpu-count b)))
       go false e false f =
           let ne = eqb-false (cpuCount b) 0 e in
           Verdict.sound (omega arith, ltb-false maxCpus (cpuCount b) f)
@@ -115,8 +116,8 @@ module _ {b : Board} (typed : Typed b) (well : WellFormed b) where
       mpidrReadings b j .number ≡ 0 →
       Decides (eqb (mpidrReadings b j .value) (mpidrReadings b i .value)) (Reg b j u l)
   same-reg a {i} {j} {u} {l} r zi zj =
-      let s = mpidr-read typed well i a zi in
-      let t = mpidr-read typed well j a zj in
+      let s = mpidr-read sized well i a zi in
+      let t = mpidr-read sized well j a zj in
       let own = reg-unique well (s .2) r in
       decides-as (eq-decides (mpidrReadings b j .value) (mpidrReadings b i .value))
       (λ e.
@@ -129,13 +130,13 @@ module _ {b : Board} (typed : Typed b) (well : WellFormed b) where
   pub cpu-says : CellsRead b → (i : ℕ) → ((j : ℕ) → j < i → cpuFaultAt b j ≡ 0) → CpuSays b i (cpuFaultAt b i)
   unfolding gatherFault
   cpu-says a i none =
-      go (isCpu (b .nodes) (b .pool) i) (cpu-test well i) (mpidr-says typed well i a) _
+      go (isCpu (b .nodes) (b .pool) i) (cpu-test well i) (mpidr-says sized well i a) _
       (λ u l r z. seen-decides (isCpu (b .nodes) (b .pool)) (mpidrReadings b) 13 i none (λ j. same-reg a r z))
     where
       go :
           (t : Bool) →
           Decides t (Cpu b i) →
-          {q : Reading} →
+          {q : CpuReading} →
           MpidrSays b i q →
           (seen : Bool) →
           ((u l : ℕ) → Reg b i u l → q .number ≡ 0 → Decides seen ((j : ℕ) × (j < i) × ((isCpu (b .nodes) (b .pool) j ≡ true) × Reg b j u l))) →
@@ -152,28 +153,28 @@ module _ {b : Board} (typed : Typed b) (well : WellFormed b) where
   pub phandle-told : (i : ℕ) → ((j : ℕ) → j < i → phandleFaultAt b j ≡ 0) → Verdict (PhandleRule b) 17 i (OwnPhandle b i) (phandleFaultAt b i)
   unfolding gatherFault
   phandle-told i none =
-      go (isCpu (b .nodes) (b .pool) i) (cpu-test well i) (phandle-says typed well i) _
+      go (isCpu (b .nodes) (b .pool) i) (cpu-test well i) (phandle-says sized well i) _
       (λ h p z. seen-decides (isCpu (b .nodes) (b .pool)) (phandleReadings b) 17 i none (λ j. same h p z j))
     where
       same : (h : ℕ) → Phandle b i h → phandleReadings b i .number ≡ 0 → (j : ℕ) → phandleReadings b j .number ≡ 0 → Decides (eqb (phandleReadings b j .value) (phandleReadings b i .value)) (Phandle b j h)
       same h p zi j zj =
-          let own = phandle-unique well (phandle-read typed well i zi) p in
+          let own = phandle-unique well (phandle-read sized well i zi) p in
           decides-as (eq-decides (phandleReadings b j .value) (phandleReadings b i .value))
-          (λ e. rw (e ∙ own) at (phandle-read typed well j zj))
-          (λ q. phandle-unique well (phandle-read typed well j zj) q ∙ sym own)
+          (λ e. rw (e ∙ own) at (phandle-read sized well j zj))
+          (λ q. phandle-unique well (phandle-read sized well j zj) q ∙ sym own)
 
       go :
           (t : Bool) →
           Decides t (Cpu b i) →
-          {q : Reading} →
+          {q : CpuReading} →
           PhandleSays b i q →
           (seen : Bool) →
           ((h : ℕ) → Phandle b i h → q .number ≡ 0 → Decides seen ((j : ℕ) × (j < i) × ((isCpu (b .nodes) (b .pool) j ≡ true) × Phandle b j h))) →
           Verdict (PhandleRule b) 17 i (OwnPhandle b i) (cond t (unlessSeen 17 seen q .number) 0)
       go false cpu q seen e = Verdict.sound (λ k. absurd (decides-not cpu .0 refl k))
-      go true cpu (PhandleSays.none f) seen e = Verdict.broken (PhandleRule.phandle i (cpu .0 refl) f)
+      go true cpu (PhandleSays.none f) seen e = Verdict.broken (PhandleRule.cpuPhandle i (cpu .0 refl) f)
       go true cpu (PhandleSays.phandle {h = h} p) true e =
           let t = e h p refl .0 refl in
-          Verdict.broken (PhandleRule.repeatedPhandle i (t .0) h (cpu .0 refl) (cpu-test well (t .0) .0 (t .2 .0)) (t .1) p (t .2 .1))
+          Verdict.broken (PhandleRule.cpuPhandleTaken i (t .0) h (cpu .0 refl) (cpu-test well (t .0) .0 (t .2 .0)) (t .1) p (t .2 .1))
       go true cpu (PhandleSays.phandle {h = h} p) false e =
           Verdict.sound (λ _. (h, p, λ j lt c q. decides-not (e h p refl) .0 refl (j, lt, (cpu-test well j .1 c, q))))

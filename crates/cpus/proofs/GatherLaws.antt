@@ -10,16 +10,16 @@ use lib.ListN.{length, getD, take, set, length-map, length-take}
 use lib.Seq.{length-take-le, take-suc, getD-take}
 use borrow.Author.Tests.{ne-eqb}
 use Rattle.laws.specs.declared.Fault.{Fault}
-use Rattle.laws.specs.Fault.{clear, firstFault}
-use Rattle.laws.specs.Search.{isAmong}
-use Rattle.laws.specs.Listed.{over, toldOf, passedOf}
+use Rattle.laws.specs.answers.Fault.{clear, firstFault}
+use Rattle.laws.specs.answers.Search.{isAmong}
+use Rattle.laws.specs.answers.Listed.{laidOver, faultOfMember, membersPassed}
 use Rattle.laws.proofs.FaultLaws.{told-at, clear-more, at-fault, at-end}
 use Rattle.laws.proofs.OverLaws.{over-none, over-length, over-front, over-push}
-use Rattle.cpus.specs.declared.Reading.{Reading}
-use Rattle.cpus.specs.Gather.{unlessSeen, listedFault, firstIndex, firstRecord, numbersOver}
+use Rattle.cpus.specs.declared.CpuReading.{CpuReading}
+use Rattle.cpus.specs.answers.Numbers.{unlessSeen, listedFault, firstIndex, firstRecord, numbersOver}
 
 -- a reading keeps its number where that is refused
-unless-value : (rule : ℕ) (seen : Bool) (q : Reading) → unlessSeen rule seen q .value ≡ q .value
+unless-value : (rule : ℕ) (seen : Bool) (q : CpuReading) → unlessSeen rule seen q .value ≡ q .value
 unless-value rule seen q = go (eqb (q .number) 0) seen
   where
     go : (a b : Bool) → cond a (cond b (record { number = rule; value = q .value }) q) q .value ≡ q .value
@@ -27,7 +27,7 @@ unless-value rule seen q = go (eqb (q .number) 0) seen
     go true false = refl
     go false b = refl
 
-module _ (r : ℕ → Reading) (rule : ℕ) (records before : List ℕ) where
+module _ (r : ℕ → CpuReading) (rule : ℕ) (records before : List ℕ) where
   -- the records that there is room for
   abbrev cut : List ℕ
   cut = take (length before) records
@@ -49,7 +49,7 @@ module _ (r : ℕ → Reading) (rule : ℕ) (records before : List ℕ) where
   pub record Pass (k : ℕ) (values : List ℕ) : Type 0 where
     pub within : k ≤ length cut
     pub none : firstFault (listedFault r rule cut) k ≡ clear
-    pub held : values ≡ over (numbers k) before
+    pub held : values ≡ laidOver (numbers k) before
 
   pub pass-start : Pass 0 before
   unfolding firstFault
@@ -65,14 +65,14 @@ module _ (r : ℕ → Reading) (rule : ℕ) (records before : List ℕ) where
   told-index :
       {fault : Fault} {k : ℕ} {values : List ℕ} →
       fault ≡ firstIndex r rule cut →
-      passedOf cut fault ≡ k →
+      membersPassed cut fault ≡ k →
       Pass k values →
-      Told (toldOf cut fault) values
+      Told (faultOfMember cut fault) values
   unfolding firstRecord numbersOver
-  told-index e p h = (ap (toldOf cut) e, h .held ∙ ap (λ (n : ℕ). over (numbers n) before) (sym p ∙ ap (passedOf cut) e))
+  told-index e p h = (ap (faultOfMember cut) e, h .held ∙ ap (λ (n : ℕ). laidOver (numbers n) before) (sym p ∙ ap (membersPassed cut) e))
 
   -- the record at index k, and the reading x that is made of the numbers gathered
-  module _ (k : ℕ) {values : List ℕ} {x : Reading}
+  module _ (k : ℕ) {values : List ℕ} {x : CpuReading}
       (h : Pass k values) (inside : k < length records) (room : k < length values)
       (made : x ≡ unlessSeen rule (isAmong (take k values) (r (getD records k 0) .value)) (r (getD records k 0))) where
     fits : (k < length cut) × (k < length before)
@@ -84,16 +84,16 @@ module _ (r : ℕ → Reading) (rule : ℕ) (records before : List ℕ) where
     front : take k values ≡ numbers k
     front =
         let long = numbers-length k (omega (arith, fits)) in
-        ap (take k) (h .held) ∙ ap (λ (n : ℕ). take n (over (numbers k) before)) (sym long) ∙ over-front (numbers k) before (omega (arith, fits))
+        ap (take k) (h .held) ∙ ap (λ (n : ℕ). take n (laidOver (numbers k) before)) (sym long) ∙ over-front (numbers k) before (omega (arith, fits))
 
     pass-fault : x .number ≡ listedFault r rule cut k
     unfolding listedFault
-    pass-fault = ap (λ (q : Reading). q .number) made ∙ rw (front, ← at)
+    pass-fault = ap (λ (q : CpuReading). q .number) made ∙ rw (front, ← at)
 
     pub pass-next : x .number ≡ 0 → Pass (k + 1) (set values k (x .value))
     pass-next z =
         let value : x .value ≡ r (getD cut k 0) .value =
-        ap (λ (q : Reading). q .value) made
+        ap (λ (q : CpuReading). q .value) made
         ∙ unless-value rule (isAmong (take k values) (r (getD records k 0) .value)) (r (getD records k 0))
         ∙ ap (λ (i : ℕ). r i .value) (sym at) in
         record {
@@ -102,7 +102,7 @@ module _ (r : ℕ → Reading) (rule : ℕ) (records before : List ℕ) where
           held =
               ap₂ (λ (l : List ℕ) (v : ℕ). set l k v) (h .held) value
               ∙ over-push (numbers k) before _ k (numbers-length k (omega (arith, fits))) (fits .1)
-              ∙ ap (λ (l : List ℕ). over l before) (numbers-more k (fits .0));
+              ∙ ap (λ (l : List ℕ). laidOver l before) (numbers-more k (fits .0));
         }
 
     pub pass-told : (x .number ≡ 0 → ⊥) → Told (record { number = x .number; place = getD records k 0 }) values

@@ -7,14 +7,15 @@ use native.Mathlib.Omega.{arith}
 use lib.ListN.{length, getD, take, drop}
 use lib.Seq.{take-add, drop-drop}
 use Rattle.laws.proofs.DecideLaws.{Decides, eq-decides, both-decides}
-use Rattle.affinity.specs.Level.{isAffine}
-use Rattle.tables.specs.Board.{range}
-use Rattle.tables.specs.Property.{cellBytes, cellAt}
+use Rattle.affinity.specs.answers.Level.{isAffine}
+use Rattle.tables.specs.facts.Board.{range}
+use Rattle.tables.specs.facts.Property.{cellBytes}
+use Rattle.tables.specs.answers.Lookup.{cellAt}
 use Rattle.tables.proofs.CellLaws.{cell-bytes, cell-bytes-apart, cell-lt}
 use Rattle.cpus.specs.declared.Cells.{Cells}
 use Rattle.cpus.specs.declared.Cells.the-variants.{One, Two}
-use Rattle.cpus.specs.Node.{mpidr}
-use Rattle.cpus.specs.Cell.{sizeOf, cellsAt}
+use Rattle.cpus.specs.facts.Node.{mpidr}
+use Rattle.cpus.specs.answers.Cell.{sizeOf, cellsAt}
 
 -- the numbers of one cell, or of two, and their bytes: of two, the upper cell and the lower
 abbrev pub limit : Cells → ℕ

@@ -9,25 +9,25 @@ use lib.Dec.{eqb}
 use borrow.Author.Tests.{eqb-true, eqb-false}
 use Rattle.laws.proofs.SearchLaws.{true-false}
 use Rattle.laws.proofs.DecideLaws.{Decides, decides-not}
-use Rattle.affinity.specs.Level.{Affine, isAffine}
+use Rattle.affinity.specs.facts.Level.{Affine}
+use Rattle.affinity.specs.answers.Level.{isAffine}
 use Rattle.affinity.proofs.AffineLaws.{test-affine}
-use Rattle.tables.specs.Board.{Board, Typed}
-use Rattle.tables.specs.Property.{HasValue, cellBytes}
-use Rattle.wellformed.specs.Rules.{WellFormed}
+use Rattle.tables.specs.facts.Board.{Board, WordSized}
+use Rattle.tables.specs.facts.Property.{HasValue, cellBytes}
+use Rattle.wellformed.specs.facts.Rules.{WellFormed}
 use Rattle.tables.proofs.CellLaws.{cell-bytes-apart}
 use Rattle.cpus.specs.declared.Cells.{Cells}
 use Rattle.cpus.specs.declared.Cells.the-variants.{One, Two}
 use Rattle.cpus.specs.declared.RootCells.{RootCells}
 use Rattle.cpus.specs.declared.RootCells.the-variants.{Are, Broken}
 use Rattle.cpus.specs.declared.Value.{Value}
-use Rattle.cpus.specs.declared.Value.the-variants.{Is, Not}
-use Rattle.cpus.specs.declared.Reading.{Reading}
-use Rattle.keys.specs.Key.{regKey, phandleKey, deviceTypeKey}
-use Rattle.cpus.specs.Words.{cpuString, cpuCell, addressCellsKey}
-use Rattle.cpus.specs.Node.{CellsAllowed, AddressCells, Reg, mpidr, Phandle}
-use Rattle.cpus.specs.Cell.{affineOnly, phandleIn, cellOf}
-use Rattle.cpus.specs.Check.{cellsFor, addressCells, regCells, mpidrReadings, phandleReadings}
-use Rattle.cpus.specs.Gather.{reading, numberOr, readingFrom, readingOf}
+use Rattle.cpus.specs.declared.Value.the-variants.{Number, Invalid}
+use Rattle.cpus.specs.declared.CpuReading.{CpuReading}
+use Rattle.tables.specs.facts.Binding.{regKey, phandleKey, deviceTypeKey, cpuString, addressCellsKey}
+use Rattle.cpus.specs.answers.Cell.{cpuCell, affineOnly, phandleIn, cellOf}
+use Rattle.cpus.specs.facts.Node.{CellsAllowed, AddressCells, Reg, mpidr, Phandle}
+use Rattle.cpus.specs.answers.Check.{cellsFor, addressCells, regCells, mpidrReadings, phandleReadings}
+use Rattle.cpus.specs.answers.Numbers.{cpuReading, numberOr, readingFrom, readingOf}
 use Rattle.cpus.proofs.PairMeans.{limit, valueBytes, bytes-length, bytes-apart, affine-decides, parts-affine, mpidr-parts, mpidr-apart}
 use Rattle.cpus.proofs.ValueMeans.{value-unique, ValueSays, value-says, cell-says, number-test}
 
@@ -123,10 +123,10 @@ module _ {b : Board} (well : WellFormed b) where
       let t = affine-decides n .0 e in
       (n / 2 ^ 32, n % 2 ^ 32, Reg.twoCells a h (omega (arith, t)) (omega (arith, t)), omega arith)
 
-module _ {b : Board} (typed : Typed b) (well : WellFormed b) where
+module _ {b : Board} (sized : WordSized b) (well : WellFormed b) where
   pub cells-say : CellsSay b (addressCells b)
   unfolding addressCells
-  cells-say = go (cell-says typed well 0 addressCellsKey)
+  cells-say = go (cell-says sized well 0 addressCellsKey)
     where
       refuse :
           {w : ℕ} → HasValue b 0 addressCellsKey (cellBytes w) → w < 2 ^ 32 → (w ≡ 1 → ⊥) → (w ≡ 2 → b .width ≡ 64 → ⊥) → (n : ℕ) → AddressCells b n → ⊥
@@ -156,24 +156,24 @@ module _ {b : Board} (typed : Typed b) (well : WellFormed b) where
       go (ValueSays.none n) = CellsSay.none (λ m a. n (cellBytes m) (a .value) refl)
 
 -- what a cpu record's MPIDR is read as: its `reg`, or the rule that is broken
-pub data MpidrSays (b : Board) (i : ℕ) : Reading → Type 0 where
-  untyped : (HasValue b i deviceTypeKey cpuString → ⊥) → MpidrSays b i (reading 11 0)
-  unread : HasValue b i deviceTypeKey cpuString → ((u l : ℕ) → Reg b i u l → ⊥) → MpidrSays b i (reading 12 0)
-  reg : {u l m : ℕ} → HasValue b i deviceTypeKey cpuString → Reg b i u l → m ≡ mpidr u l → MpidrSays b i (reading 0 m)
+pub data MpidrSays (b : Board) (i : ℕ) : CpuReading → Type 0 where
+  untyped : (HasValue b i deviceTypeKey cpuString → ⊥) → MpidrSays b i (cpuReading 11 0)
+  unread : HasValue b i deviceTypeKey cpuString → ((u l : ℕ) → Reg b i u l → ⊥) → MpidrSays b i (cpuReading 12 0)
+  reg : {u l m : ℕ} → HasValue b i deviceTypeKey cpuString → Reg b i u l → m ≡ mpidr u l → MpidrSays b i (cpuReading 0 m)
 
 -- and its `phandle`
-pub data PhandleSays (b : Board) (i : ℕ) : Reading → Type 0 where
-  phandle : {h : ℕ} → Phandle b i h → PhandleSays b i (reading 0 h)
-  none : ((h : ℕ) → Phandle b i h → ⊥) → PhandleSays b i (reading 17 0)
+pub data PhandleSays (b : Board) (i : ℕ) : CpuReading → Type 0 where
+  phandle : {h : ℕ} → Phandle b i h → PhandleSays b i (cpuReading 0 h)
+  none : ((h : ℕ) → Phandle b i h → ⊥) → PhandleSays b i (cpuReading 17 0)
 
 pub phandle-unique : {b : Board} (well : WellFormed b) {i g h : ℕ} → Phandle b i g → Phandle b i h → g ≡ h
 phandle-unique well {i} {g} {h} p q = cell-bytes-apart g h (p .word) (q .word) (value-unique well (p .value) (q .value))
 
-module _ {b : Board} (typed : Typed b) (well : WellFormed b) (i : ℕ) where
+module _ {b : Board} (sized : WordSized b) (well : WellFormed b) (i : ℕ) where
   module _ (a : CellsRead b) where
     pub mpidr-says : MpidrSays b i (mpidrReadings b i)
     unfolding readingFrom readingOf cellOf
-    mpidr-says = go _ (number-test typed well i deviceTypeKey cpuCell (omega arith)) (value-says typed well i regKey (regCells b))
+    mpidr-says = go _ (number-test sized well i deviceTypeKey cpuCell (omega arith)) (value-says sized well i regKey (regCells b))
       where
         pick :
             {n : ℕ} →
@@ -182,7 +182,7 @@ module _ {b : Board} (typed : Typed b) (well : WellFormed b) (i : ℕ) where
             n < limit (regCells b) →
             (t : Bool) →
             isAffine n ≡ t →
-            MpidrSays b i (numberOr 12 (cond t (Is n) Not))
+            MpidrSays b i (numberOr 12 (cond t (Number n) Invalid))
         pick kind h lt true e = let t = number-reg well (regCells b) a h lt e in MpidrSays.reg kind (t .2) (t .3)
         pick kind h lt false e =
             MpidrSays.unread kind
@@ -193,7 +193,7 @@ module _ {b : Board} (typed : Typed b) (well : WellFormed b) (i : ℕ) where
             Decides s (HasValue b i deviceTypeKey cpuString) →
             {v : Value} →
             ValueSays b (regCells b) i regKey v →
-            MpidrSays b i (cond s (numberOr 12 (affineOnly v)) (numberOr 11 Not))
+            MpidrSays b i (cond s (numberOr 12 (affineOnly v)) (numberOr 11 Invalid))
         go false kind v = MpidrSays.untyped (decides-not kind .0 refl)
         go true kind (ValueSays.number {n = n} h lt) = pick (kind .0 refl) h lt (isAffine n) refl
         go true kind (ValueSays.none f) =
@@ -203,14 +203,14 @@ module _ {b : Board} (typed : Typed b) (well : WellFormed b) (i : ℕ) where
     pub mpidr-read : mpidrReadings b i .number ≡ 0 → (u : ℕ) × (l : ℕ) × Reg b i u l × (mpidrReadings b i .value ≡ mpidr u l)
     mpidr-read = go mpidr-says
       where
-        go : {q : Reading} → MpidrSays b i q → q .number ≡ 0 → (u : ℕ) × (l : ℕ) × Reg b i u l × (q .value ≡ mpidr u l)
+        go : {q : CpuReading} → MpidrSays b i q → q .number ≡ 0 → (u : ℕ) × (l : ℕ) × Reg b i u l × (q .value ≡ mpidr u l)
         go (MpidrSays.untyped _) z = absurd (omega arith)
         go (MpidrSays.unread _ _) z = absurd (omega arith)
         go (MpidrSays.reg {u = u} {l = l} _ r e) z = (u, l, r, e)
 
   pub phandle-says : PhandleSays b i (phandleReadings b i)
   unfolding readingFrom readingOf cellOf
-  phandle-says = go (cell-says typed well i phandleKey)
+  phandle-says = go (cell-says sized well i phandleKey)
     where
       same : {w h : ℕ} → HasValue b i phandleKey (cellBytes w) → w < 2 ^ 32 → Phandle b i h → w ≡ h
       same {w} {h} v lt p = cell-bytes-apart w h lt (p .word) (value-unique well v (p .value))
@@ -223,7 +223,7 @@ module _ {b : Board} (typed : Typed b) (well : WellFormed b) (i : ℕ) where
           eqb w 0 ≡ t →
           (s : Bool) →
           eqb w 0xFFFFFFFF ≡ s →
-          PhandleSays b i (numberOr 17 (cond t Not (cond s Not (Is w))))
+          PhandleSays b i (numberOr 17 (cond t Invalid (cond s Invalid (Number w))))
       pick {w} v lt true e s f = PhandleSays.none (λ h p. p .not-zero (sym (same v lt p) ∙ eqb-true w 0 e))
       pick {w} v lt false e true f = PhandleSays.none (λ h p. p .not-ones (sym (same v lt p) ∙ eqb-true w 0xFFFFFFFF f))
       pick {w} v lt false e false f = PhandleSays.phandle (record { value = v; word = lt; not-zero = eqb-false w 0 e; not-ones = eqb-false w 0xFFFFFFFF f })
@@ -235,6 +235,6 @@ module _ {b : Board} (typed : Typed b) (well : WellFormed b) (i : ℕ) where
   pub phandle-read : phandleReadings b i .number ≡ 0 → Phandle b i (phandleReadings b i .value)
   phandle-read = go phandle-says
     where
-      go : {q : Reading} → PhandleSays b i q → q .number ≡ 0 → Phandle b i (q .value)
+      go : {q : CpuReading} → PhandleSays b i q → q .number ≡ 0 → Phandle b i (q .value)
       go (PhandleSays.phandle p) z = p
       go (PhandleSays.none f) z = absurd (omega arith)

@@ -5,15 +5,14 @@ use Prim.Native.Nat.{ℕ, _≤_, _<_}
 use native.Mathlib.Omega.{arith}
 use lib.ListN.{length, getD}
 use Rattle.laws.proofs.ListingLaws.{listing-unique}
-use Rattle.tables.specs.Board.{Board, nodeCount}
-use Rattle.wellformed.specs.Order.{stage}
-use Rattle.tables.specs.Property.{HasValue}
-use Rattle.wellformed.specs.Rules.{WellFormed}
-use Rattle.keys.specs.Key.{regKey, deviceTypeKey}
-use Rattle.cpus.specs.Words.{cpuString}
-use Rattle.cpus.specs.Node.{Cpu, Reg}
-use Rattle.cpus.specs.Rules.{CpuRule, PhandleRule}
-use Rattle.cpus.specs.Check.{cpuList}
+use Rattle.tables.specs.facts.Board.{Board, nodeCount}
+use Rattle.wellformed.specs.facts.Order.{stage}
+use Rattle.tables.specs.facts.Property.{HasValue}
+use Rattle.wellformed.specs.facts.Rules.{WellFormed}
+use Rattle.tables.specs.facts.Binding.{regKey, deviceTypeKey, cpuString}
+use Rattle.cpus.specs.facts.Node.{Cpu, Reg}
+use Rattle.cpus.specs.facts.Rules.{CpuRule, PhandleRule}
+use Rattle.cpus.specs.answers.Check.{cpuList}
 use Rattle.cpus.proofs.CpuMeans.{cpu-listing, cpu-count}
 use Rattle.cpus.proofs.RegMeans.{reg-value, phandle-unique}
 use Rattle.cpus.proofs.FaultMeans.{Root, CountRange, CpuSays, OwnPhandle}
@@ -57,15 +56,15 @@ module _ {b : Board} where
   twice {q} {j} well c d lt g h (CpuSays.sound _ _ r first) = absurd (first j lt d (reg-value well g h r))
 
   pub staged : {m q : ℕ} → CpuRule b m q → Staged b (stage m) m q
-  staged (CpuRule.notCpus f) = Staged.root (λ r. f (r .name))
-  staged (CpuRule.addressCells f) = Staged.root (λ r. f _ (r .cells))
-  staged (CpuRule.sizeCells f) = Staged.root (λ r. f (r .size))
-  staged (CpuRule.noCpus f) = Staged.count (λ well r. f (getD (cpuList b) 0 0) (cpu-listing well .only 0 (omega (arith, r .0, cpu-count b))))
-  staged (CpuRule.manyCpus l h lt) =
+  staged (CpuRule.cpusNodeName f) = Staged.root (λ r. f (r .name))
+  staged (CpuRule.cpusNodeAddressCells f) = Staged.root (λ r. f _ (r .cells))
+  staged (CpuRule.cpusNodeSizeCells f) = Staged.root (λ r. f (r .size))
+  staged (CpuRule.cpuCountNone f) = Staged.count (λ well r. f (getD (cpuList b) 0 0) (cpu-listing well .only 0 (omega (arith, r .0, cpu-count b))))
+  staged (CpuRule.cpuCountMany l h lt) =
       Staged.count (λ well r. omega (arith, r .1, cpu-count b, ap length (listing-unique l (cpuList b) h (cpu-listing well))))
-  staged (CpuRule.deviceType i c f) = Staged.cpu c (λ _ _. no-type c f)
-  staged (CpuRule.reg i c f) = Staged.cpu c (λ _ _. no-reg c f)
-  staged (CpuRule.repeatedReg i j value c d lt g h) = Staged.cpu c (λ well _. twice well c d lt g h)
+  staged (CpuRule.cpuDeviceType i c f) = Staged.cpu c (λ _ _. no-type c f)
+  staged (CpuRule.cpuReg i c f) = Staged.cpu c (λ _ _. no-reg c f)
+  staged (CpuRule.duplicateCpuReg i j value c d lt g h) = Staged.cpu c (λ well _. twice well c d lt g h)
 
   -- the stages of rules 9 to 13, and of rule 17
   pub cpu-staged : {s m q : ℕ} → Staged b s m q → (stage 9 ≤ s) × (s < stage 15)
@@ -74,8 +73,8 @@ module _ {b : Board} where
   cpu-staged (Staged.cpu _ _) = omega arith
 
   pub phandle-staged : {m q : ℕ} → PhandleRule b m q → (stage 17 ≤ stage m) × (stage m < stage 18)
-  phandle-staged (PhandleRule.phandle _ _ _) = omega arith
-  phandle-staged (PhandleRule.repeatedPhandle _ _ _ _ _ _ _ _) = omega arith
+  phandle-staged (PhandleRule.cpuPhandle _ _ _) = omega arith
+  phandle-staged (PhandleRule.cpuPhandleTaken _ _ _ _ _ _ _ _) = omega arith
 
   module _ (well : WellFormed b) where
     pub root-broken : {m q : ℕ} → Staged b (stage 9) m q → (m ≡ 9) × (q ≡ 0) × (Root b → ⊥)
@@ -89,6 +88,6 @@ module _ {b : Board} where
 
     -- rule 17
     pub phandle-broken : {m q : ℕ} → PhandleRule b m q → (m ≡ 17) × (q < nodeCount (b .nodes)) × (OwnPhandle b q → ⊥)
-    phandle-broken (PhandleRule.phandle i c f) = (refl, c .child .inside, λ own. let t = own c in f (t .0) (t .1))
-    phandle-broken (PhandleRule.repeatedPhandle i j h c d lt p q) =
+    phandle-broken (PhandleRule.cpuPhandle i c f) = (refl, c .child .inside, λ own. let t = own c in f (t .0) (t .1))
+    phandle-broken (PhandleRule.cpuPhandleTaken i j h c d lt p q) =
         (refl, c .child .inside, λ own. let t = own c in t .2 j lt d (rw (phandle-unique well p (t .1)) at q))

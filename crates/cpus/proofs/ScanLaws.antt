@@ -7,30 +7,30 @@ use lib.Dec.{eqb}
 use lib.ListN.{length, getD}
 use lib.Seq.{take-length}
 use borrow.Author.Tests.{eq-eqb, eqb-true}
-use Rattle.laws.specs.Fault.{firstFault}
-use Rattle.laws.specs.Search.{anyBelow, countBelow, listBelow, isAmong}
-use Rattle.laws.specs.Listed.{over, toldOf}
+use Rattle.laws.specs.answers.Fault.{firstFault}
+use Rattle.laws.specs.answers.Search.{anyBelow, countBelow, listBelow, isAmong}
+use Rattle.laws.specs.answers.Listed.{laidOver, faultOfMember}
 use Rattle.laws.proofs.SearchLaws.{any-at, any-place}
 use Rattle.laws.proofs.TestLaws.{both-true}
 use Rattle.laws.proofs.DecideLaws.{Decides}
 use Rattle.laws.proofs.OrElseLaws.{told-number}
 use Rattle.laws.proofs.GatherLaws.{gathered-seen, first-same}
 use Rattle.laws.proofs.ListedLaws.{list-before, first-listed}
-use Rattle.tables.specs.Property.{lookup}
-use Rattle.keys.specs.declared.Key.{Key}
-use Rattle.keys.specs.Key.{keyName}
-use Rattle.keys.specs.Index.{keyAt}
-use Rattle.cpus.specs.declared.Wanted.{Wanted}
-use Rattle.cpus.specs.declared.Reading.{Reading}
-use Rattle.cpus.specs.Gather.{readingFrom, readingAt, readingOf, unlessSeen, listedFault, firstIndex, firstRecord, numbersOver}
+use Rattle.tables.specs.answers.Lookup.{lookup}
+use Rattle.property_index.specs.declared.Key.{Key}
+use Rattle.property_index.specs.answers.Key.{keyName}
+use Rattle.property_index.specs.answers.Index.{indexedAt}
+use Rattle.cpus.specs.declared.CpuNumbers.{CpuNumbers}
+use Rattle.cpus.specs.declared.CpuReading.{CpuReading}
+use Rattle.cpus.specs.answers.Numbers.{readingFrom, readingAt, readingOf, unlessSeen, listedFault, firstIndex, firstRecord, numbersOver}
 
 -- what place i that passes p breaks, 0 where nothing, given the readings of all
-unfoldable pub gatherFault : (ℕ → Bool) → (ℕ → Reading) → ℕ → ℕ → ℕ
+unfoldable pub gatherFault : (ℕ → Bool) → (ℕ → CpuReading) → ℕ → ℕ → ℕ
 gatherFault p r rule i =
     cond (p i) (unlessSeen rule (anyBelow (λ j. cond (p j) (eqb (r j .value) (r i .value)) false) i) (r i) .number) 0
 
 -- the places that pass p, listed: their first fault
-module _ (p : ℕ → Bool) (r : ℕ → Reading) (rule n : ℕ) where
+module _ (p : ℕ → Bool) (r : ℕ → CpuReading) (rule n : ℕ) where
   -- what place i breaks, given the numbers of the places listed before it
   abbrev ownFault : ℕ → ℕ → ℕ
   ownFault k i = unlessSeen rule (isAmong (map (λ j. r j .value) (listBelow p i)) (r i .value)) (r i) .number
@@ -50,28 +50,28 @@ module _ (p : ℕ → Bool) (r : ℕ → Reading) (rule n : ℕ) where
   pub first-gathered : firstRecord r rule (listBelow p n) ≡ firstFault (gatherFault p r rule) n
   unfolding firstRecord
   first-gathered =
-      ap (toldOf (listBelow p n)) (first-same (listedFault r rule (listBelow p n)) (λ k. ownFault k (getD (listBelow p n) k 0)) (length (listBelow p n)) (λ k lt _. listed-own k lt))
+      ap (faultOfMember (listBelow p n)) (first-same (listedFault r rule (listBelow p n)) (λ k. ownFault k (getD (listBelow p n) k 0)) (length (listBelow p n)) (λ k lt _. listed-own k lt))
       ∙ first-listed p ownFault n
       ∙ first-same (λ i. cond (p i) (ownFault (countBelow p i) i) 0) (gatherFault p r rule) n (λ i _ _. own-gathered i)
 
 -- where the gathering tells nothing, the buffer holds the numbers of all
 pub numbers-clear :
-    (r : ℕ → Reading) (rule : ℕ) (records before : List ℕ) →
+    (r : ℕ → CpuReading) (rule : ℕ) (records before : List ℕ) →
     firstRecord r rule records .number ≡ 0 →
-    numbersOver r rule records before ≡ over (map (λ i. r i .value) records) before
+    numbersOver r rule records before ≡ laidOver (map (λ i. r i .value) records) before
 unfolding firstRecord numbersOver
 numbers-clear r rule records before z = rw (eq-eqb (firstIndex r rule records .number) 0 (sym (told-number _ _) ∙ z), take-length records)
 
 -- a table of keys that tells what a lookup finds gives the same readings
 pub same-reading :
-    (w : Wanted) (props pool keys : List ℕ) →
-    ((i : ℕ) (key : Key) → keyAt keys i key ≡ lookup props pool i (keyName key)) →
-    readingAt w props pool keys ≡ readingOf w props pool
+    (w : CpuNumbers) (props pool index : List ℕ) →
+    ((i : ℕ) (key : Key) → indexedAt index i key ≡ lookup props pool i (keyName key)) →
+    readingAt w props pool index ≡ readingOf w props pool
 unfolding readingOf
-same-reading w props pool keys same = fun-ext (λ i. ap (readingFrom w props pool) (fun-ext (same i)))
+same-reading w props pool index same = fun-ext (λ i. ap (readingFrom w props pool) (fun-ext (same i)))
 
 -- the places that pass p, of which none before i breaks a rule
-module _ (p : ℕ → Bool) (r : ℕ → Reading) (rule : ℕ) where
+module _ (p : ℕ → Bool) (r : ℕ → CpuReading) (rule : ℕ) where
   sound-reading : (i : ℕ) → p i ≡ true → gatherFault p r rule i ≡ 0 → r i .number ≡ 0
   unfolding gatherFault
   sound-reading i e z = go (eqb (r i .number) 0) refl (rw e at z)

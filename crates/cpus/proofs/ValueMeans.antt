@@ -8,17 +8,18 @@ use native.Mathlib.Omega.{arith}
 use lib.ListN.{length, length-take, length-drop}
 use Rattle.laws.proofs.SearchLaws.{true-false}
 use Rattle.laws.proofs.DecideLaws.{Decides, decides-as, eq-decides, le-decides, both-decides}
-use Rattle.tables.specs.Board.{Board, Typed, Inside, range, propValue, valueOffset, valueLength}
-use Rattle.tables.specs.Property.{Property, HasValue, lookup, cellBytes}
-use Rattle.wellformed.specs.Rules.{WellFormed}
+use Rattle.tables.specs.facts.Board.{Board, WordSized, Inside, range, propValue, valueOffset, valueLength}
+use Rattle.tables.specs.facts.Property.{Property, HasValue, cellBytes}
+use Rattle.tables.specs.answers.Lookup.{lookup}
+use Rattle.wellformed.specs.facts.Rules.{WellFormed}
 use Rattle.tables.proofs.LookupLaws.{lookup-cases}
 use Rattle.wellformed.proofs.WellFormedLaws.{wf-unique, wf-value-unique}
 use Rattle.tables.proofs.CellLaws.{cell-bytes-apart}
 use Rattle.cpus.specs.declared.Cells.{Cells}
 use Rattle.cpus.specs.declared.Cells.the-variants.{One}
 use Rattle.cpus.specs.declared.Value.{Value}
-use Rattle.cpus.specs.declared.Value.the-variants.{Is, Not}
-use Rattle.cpus.specs.Cell.{sizeOf, valueSized, cellsAt, valueIn, cellOf, isNumber}
+use Rattle.cpus.specs.declared.Value.the-variants.{Number, Invalid}
+use Rattle.cpus.specs.answers.Cell.{sizeOf, valueSized, cellsAt, valueIn, cellOf, isNumber}
 use Rattle.cpus.proofs.PairMeans.{limit, valueBytes, cells-lt, cells-bytes}
 
 -- the length of a range that lies inside the pool
@@ -47,10 +48,10 @@ module _ {b : Board} (well : WellFormed b) {i : ℕ} {key : List ℕ} where
 
 -- what a property's value is as a number of so many cells: that number, or not
 pub data ValueSays (b : Board) (c : Cells) (i : ℕ) (key : List ℕ) : Value → Type 0 where
-  number : {n : ℕ} → HasValue b i key (valueBytes c n) → n < limit c → ValueSays b c i key (Is n)
-  none : ((v : List ℕ) → HasValue b i key v → length v ≡ sizeOf c → ⊥) → ValueSays b c i key Not
+  number : {n : ℕ} → HasValue b i key (valueBytes c n) → n < limit c → ValueSays b c i key (Number n)
+  none : ((v : List ℕ) → HasValue b i key v → length v ≡ sizeOf c → ⊥) → ValueSays b c i key Invalid
 
-module _ {b : Board} (typed : Typed b) (well : WellFormed b) (i : ℕ) (key : List ℕ) where
+module _ {b : Board} (sized : WordSized b) (well : WellFormed b) (i : ℕ) (key : List ℕ) where
   pub value-says : (c : Cells) → ValueSays b c i key (valueIn (b .props) (b .pool) c (lookup (b .props) (b .pool) i key))
   value-says c =
       ⊎-elim
@@ -63,7 +64,7 @@ module _ {b : Board} (typed : Typed b) (well : WellFormed b) (i : ℕ) (key : Li
           Property b i key k →
           (t : Bool) →
           valueSized (b .props) (b .pool) (sizeOf c) k ≡ t →
-          ValueSays b c i key (cond t (Is (cellsAt (b .pool) c (valueOffset (b .props) k))) Not)
+          ValueSays b c i key (cond t (Number (cellsAt (b .pool) c (valueOffset (b .props) k))) Invalid)
       at k p true e =
           let s = sized-test (b .props) (b .pool) (sizeOf c) k .0 e in
           ValueSays.number {n = cellsAt (b .pool) c (valueOffset (b .props) k)}
@@ -71,9 +72,9 @@ module _ {b : Board} (typed : Typed b) (well : WellFormed b) (i : ℕ) (key : Li
             record-number = k;
             property = p;
             range = rw (s .0) (s .1);
-            bytes = rw (s .0) (cells-bytes (b .pool) (valueOffset (b .props) k) (typed .bytes) c (s .1));
+            bytes = rw (s .0) (cells-bytes (b .pool) (valueOffset (b .props) k) (sized .bytes) c (s .1));
           })
-          (cells-lt (b .pool) (valueOffset (b .props) k) (typed .bytes) c)
+          (cells-lt (b .pool) (valueOffset (b .props) k) (sized .bytes) c)
       at k p false e = ValueSays.none (λ v h len. true-false (value-sized well (sizeOf c) p h len) e)
 
   pub cell-says : ValueSays b One i key (cellOf (b .props) (b .pool) i key)
@@ -81,18 +82,18 @@ module _ {b : Board} (typed : Typed b) (well : WellFormed b) (i : ℕ) (key : Li
   cell-says = value-says One
 
   module _ {w : ℕ} where
-    pub cell-test : cellOf (b .props) (b .pool) i key ≡ Is w → HasValue b i key (cellBytes w) × (w < 2 ^ 32)
+    pub cell-test : cellOf (b .props) (b .pool) i key ≡ Number w → HasValue b i key (cellBytes w) × (w < 2 ^ 32)
     cell-test = go cell-says
       where
-        go : {c : Value} → ValueSays b One i key c → c ≡ Is w → HasValue b i key (cellBytes w) × (w < 2 ^ 32)
+        go : {c : Value} → ValueSays b One i key c → c ≡ Number w → HasValue b i key (cellBytes w) × (w < 2 ^ 32)
         go (ValueSays.number {n = x} h lt) e = let q : x ≡ w = cc in (rw q at h, omega arith)
         go (ValueSays.none n) e = let z : _≡_ {A = ℕ} 0 1 = cc in absurd (omega arith)
 
-    pub test-cell : HasValue b i key (cellBytes w) → w < 2 ^ 32 → cellOf (b .props) (b .pool) i key ≡ Is w
+    pub test-cell : HasValue b i key (cellBytes w) → w < 2 ^ 32 → cellOf (b .props) (b .pool) i key ≡ Number w
     test-cell h lt = go cell-says
       where
-        go : {c : Value} → ValueSays b One i key c → c ≡ Is w
-        go (ValueSays.number {n = x} g m) = ap Is (cell-bytes-apart x w m lt (value-unique well g h))
+        go : {c : Value} → ValueSays b One i key c → c ≡ Number w
+        go (ValueSays.number {n = x} g m) = ap Number (cell-bytes-apart x w m lt (value-unique well g h))
         go (ValueSays.none n) = absurd (n (cellBytes w) h refl)
 
   -- the test of a cell is that of its bytes

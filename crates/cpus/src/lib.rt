@@ -1,14 +1,12 @@
 // Cpu nodes: the cells of `/cpus`, the cpu records with their MPIDRs and phandles, and rules 9 to 13 and 17.
-mod gather;
-mod limits;
 mod node;
+mod numbers;
 mod property;
 mod read;
 mod root;
 
-pub use gather::read_numbers;
-pub use limits::MAX_CPUS;
 pub use node::is_cpu;
+pub use numbers::read_numbers;
 pub use property::cell_in;
 pub use root::count_fault;
 pub use root::list_cpus;
@@ -16,8 +14,8 @@ pub use root::read_cells;
 
 // A property's value as a number, or not.
 pub enum Value {
-    Is(u64),
-    Not,
+    Number(u64),
+    Invalid,
 }
 
 // A value of one cell, or of two.
@@ -33,13 +31,13 @@ pub enum RootCells {
 }
 
 // The number of each cpu record to gather: its MPIDR, from a `reg` of so many cells, or its phandle.
-pub enum Wanted {
+pub enum CpuNumbers {
     Mpidrs(Cells),
     Phandles,
 }
 
 // What a cpu record breaks, 0 where nothing, and its number.
-pub struct Reading {
+pub struct CpuReading {
     pub number: u32,
     pub value: u64,
 }

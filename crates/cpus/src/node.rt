@@ -1,13 +1,11 @@
 // Cpu records: the children of record 0 named `cpu` or beginning `cpu@`.
+use tables::binding;
 use tables::cell_at;
 use tables::is_child;
 use tables::node_word;
 use tables::range_is;
 ghost use mathlib.Core.Path.{_≡_};
-ghost use Rattle.cpus.specs.Check.{isCpuName, isCpu};
-
-// `cpu@` as a cell.
-const CPU_UNIT: u32 = 0x63707540;
+ghost use Rattle.cpus.specs.answers.Check.{isCpuName, isCpu};
 
 // Whether a name is `cpu` or begins `cpu@`.
 fn is_cpu_name(pool: &[u8], offset: usize, len: usize) -> bool
@@ -16,7 +14,7 @@ fn is_cpu_name(pool: &[u8], offset: usize, len: usize) -> bool
     if len < 4 {
         return range_is(pool, offset, len, b"cpu");
     }
-    cell_at(pool, offset) == CPU_UNIT
+    cell_at(pool, offset) == binding::CPU_UNIT
 }
 
 // Whether record i is a cpu record.

@@ -9,7 +9,7 @@ use tables::prop_word;
 ghost use mathlib.Core.Path.{_≡_};
 ghost use Prim.Native.Nat.{_+_, _≤_};
 ghost use lib.ListN.{length};
-ghost use Rattle.cpus.specs.Cell.{sizeOf, valueSized, cellsAt, valueIn, cellIn, cellOf, isNumber};
+ghost use Rattle.cpus.specs.answers.Cell.{sizeOf, valueSized, cellsAt, valueIn, cellIn, cellOf, isNumber};
 
 // The bytes of one cell, or of two.
 fn size_of(cells: Cells) -> usize
@@ -49,12 +49,12 @@ pub fn value_in(props: &[u32], pool: &[u8], cells: Cells, found: Lookup) -> Valu
     ensures { λ r. ⌜ r ≡ valueIn (now (props .entry)) (now (pool .entry)) cells found ⌝ }
 {
     let Lookup::At(k) = found else {
-        return Value::Not;
+        return Value::Invalid;
     };
     if has_cells(props, pool, cells, k) {
-        return Value::Is(cells_at(pool, cells, prop_word(props, k, 3)));
+        return Value::Number(cells_at(pool, cells, prop_word(props, k, 3)));
     }
-    Value::Not
+    Value::Invalid
 }
 
 // The cell that is the value of a property, if it was found and has four bytes.
@@ -75,7 +75,7 @@ pub fn cell_of(props: &[u32], pool: &[u8], node: usize, key: &[u8]) -> Value
 pub fn is_number(value: Value, number: u64) -> bool
     ensures { λ r. ⌜ r ≡ isNumber value number ⌝ }
 {
-    let Value::Is(n) = value else {
+    let Value::Number(n) = value else {
         return false;
     };
     n == number

@@ -2,28 +2,28 @@
 use crate::Cells;
 use crate::RootCells;
 use crate::Value;
-use crate::limits::MAX_CPUS;
 use crate::node::is_cpu;
 use crate::property::cell_of;
 use crate::property::is_number;
-use laws::BAD_CPU_COUNT;
 use laws::at_most;
+use laws::limits::MAX_CPUS;
+use laws::limits::MAX_NODES;
+use laws::rules;
 use tables::name_is;
-use wellformed::MAX_NODES;
 ghost use mathlib.Core.Path.{_≡_};
 ghost use Prim.Native.Nat.{min};
 ghost use lib.ListN.{set};
-ghost use Rattle.laws.specs.Search.{countBelow, listBelow};
-ghost use Rattle.laws.specs.Listed.{over};
-ghost use Rattle.tables.specs.Board.{board, nodeCount};
-ghost use Rattle.wellformed.specs.Limits.{maxNodes};
-ghost use Rattle.cpus.specs.Check.{isCpu, cellsFor, soundCells, countFault};
+ghost use Rattle.laws.specs.answers.Search.{countBelow, listBelow};
+ghost use Rattle.laws.specs.answers.Listed.{laidOver};
+ghost use Rattle.tables.specs.facts.Board.{board, nodeCount};
+ghost use Rattle.laws.specs.facts.Limits.{maxNodes};
+ghost use Rattle.cpus.specs.answers.Check.{isCpu, cellsFor, soundCells, countFault};
 
 // What `#address-cells` gives a board of a width: one cell, or on width 64 two.
 fn cells_for(width: u32, value: Value) -> RootCells
     ensures { λ r. ⌜ r ≡ cellsFor width value ⌝ }
 {
-    let Value::Is(n) = value else {
+    let Value::Number(n) = value else {
         return RootCells::Broken;
     };
     if n == 1 {
@@ -67,7 +67,7 @@ pub fn list_cpus(nodes: &[u32], pool: &[u8], records: &mut [u16; MAX_CPUS]) -> u
         ⌜ r ≡ countBelow (isCpu table (now (pool .entry))) (min (nodeCount table) maxNodes) ⌝ }
     ensures records { λ _.
         let table = now (nodes .entry) in
-        ⌜ now (records .exit) ≡ over (listBelow (isCpu table (now (pool .entry))) (min (nodeCount table) maxNodes)) (now (records .entry)) ⌝ }
+        ⌜ now (records .exit) ≡ laidOver (listBelow (isCpu table (now (pool .entry))) (min (nodeCount table) maxNodes)) (now (records .entry)) ⌝ }
 {
     let n = at_most(nodes.len() / 3, MAX_NODES);
     let mut count: usize = 0;
@@ -89,10 +89,10 @@ pub fn count_fault(count: usize) -> u32
     ensures { λ r. ⌜ r ≡ countFault count ⌝ }
 {
     if count == 0 {
-        return BAD_CPU_COUNT;
+        return rules::CPU_COUNT;
     }
     if MAX_CPUS < count {
-        return BAD_CPU_COUNT;
+        return rules::CPU_COUNT;
     }
     0
 }

@@ -3,7 +3,7 @@ use affinity::Hash;
 ghost use mathlib.Core.Path.{_≡_};
 ghost use Prim.Native.Nat.{_≤_};
 ghost use lib.ListN.{length};
-ghost use Rattle.exports.specs.Answer.{answerSize, answerWords, orShort, answered};
+ghost use Rattle.exports.specs.answers.Answer.{answerSize, answerWords, orShort, answerAfter};
 
 // The words of an answer.
 pub const ANSWER_WORDS: usize = 10;
@@ -19,7 +19,7 @@ pub const NO_HASH: Hash = Hash {
 pub fn put_answer(answer: &mut [u32], number: u32, place: u32, third: u32, hash: Hash) -> u32
     requires { ⌜ answerSize ≤ length (now answer) ⌝ }
     ensures number { λ r. ⌜ r ≡ orShort (now (answer .entry)) number ⌝ }
-    ensures answer { λ _. ⌜ now (answer .exit) ≡ answered (now (answer .entry)) (answerWords number place third hash) ⌝ }
+    ensures answer { λ _. ⌜ now (answer .exit) ≡ answerAfter (now (answer .entry)) (answerWords number place third hash) ⌝ }
 {
     let shifts = hash.shifts;
     answer[0] = number;

@@ -2,14 +2,14 @@
 use crate::answer::ANSWER_WORDS;
 use crate::answer::NO_HASH;
 use crate::answer::put_answer;
-use laws::SHORT_ANSWER;
+use laws::rules;
 use tables::Lookup;
 ghost use mathlib.Core.Path.{_≡_};
-ghost use Rattle.tables.specs.Board.{board};
-ghost use Rattle.tables.specs.Property.{lookup};
-ghost use Rattle.wellformed.specs.Check.{tableFault};
-ghost use Rattle.exports.specs.Answer.{orShort, answered};
-ghost use Rattle.exports.specs.Tables.{checkWords, foundWord};
+ghost use Rattle.tables.specs.facts.Board.{board};
+ghost use Rattle.tables.specs.answers.Lookup.{lookup};
+ghost use Rattle.wellformed.specs.answers.Check.{tableFault};
+ghost use Rattle.exports.specs.answers.Answer.{orShort, answerAfter};
+ghost use Rattle.exports.specs.answers.Tables.{checkWords, foundWord};
 
 // The first of rules 1 to 8 that is broken.
 #[no_mangle]
@@ -24,10 +24,10 @@ pub extern "C" fn sunderwath_check_tables(
         ⌜ r ≡ orShort (now (answer .entry)) (tableFault (board width (now (nodes .entry)) (now (props .entry)) (now (pool .entry))) .number) ⌝ }
     ensures answer { λ _.
         ⌜ now (answer .exit)
-        ≡ answered (now (answer .entry)) (checkWords (board width (now (nodes .entry)) (now (props .entry)) (now (pool .entry)))) ⌝ }
+        ≡ answerAfter (now (answer .entry)) (checkWords (board width (now (nodes .entry)) (now (props .entry)) (now (pool .entry)))) ⌝ }
 {
     if answer.len() < ANSWER_WORDS {
-        return SHORT_ANSWER;
+        return rules::ANSWER_SPACE;
     }
     let fault = wellformed::table_fault(width, nodes, props, pool);
     put_answer(answer, fault.number, fault.place as u32, 0, NO_HASH)

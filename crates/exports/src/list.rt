@@ -2,20 +2,20 @@
 use crate::answer::ANSWER_WORDS;
 use crate::answer::NO_HASH;
 use crate::answer::put_answer;
-use laws::SHORT_ANSWER;
+use laws::rules;
 ghost use mathlib.Core.Path.{_≡_};
-ghost use Rattle.affinity.specs.List.{hashAnswer, slotAnswer};
-ghost use Rattle.exports.specs.Answer.{orShort, answered};
-ghost use Rattle.exports.specs.List.{hashWords, slotWords};
+ghost use Rattle.affinity.specs.answers.List.{hashAnswer, slotAnswer};
+ghost use Rattle.exports.specs.answers.Answer.{orShort, answerAfter};
+ghost use Rattle.exports.specs.answers.List.{hashWords, slotWords};
 
 // The hash of a list of MPIDRs.
 #[no_mangle]
 pub extern "C" fn sunderwath_list_hash(list: &[u64], answer: &mut [u32]) -> u32
     ensures number { λ r. ⌜ r ≡ orShort (now (answer .entry)) (hashAnswer (now (list .entry)) .number) ⌝ }
-    ensures answer { λ _. ⌜ now (answer .exit) ≡ answered (now (answer .entry)) (hashWords (now (list .entry))) ⌝ }
+    ensures answer { λ _. ⌜ now (answer .exit) ≡ answerAfter (now (answer .entry)) (hashWords (now (list .entry))) ⌝ }
 {
     if answer.len() < ANSWER_WORDS {
-        return SHORT_ANSWER;
+        return rules::ANSWER_SPACE;
     }
     let found = affinity::list_hash(list);
     let hash = found.hash;
@@ -26,10 +26,10 @@ pub extern "C" fn sunderwath_list_hash(list: &[u64], answer: &mut [u32]) -> u32
 #[no_mangle]
 pub extern "C" fn sunderwath_list_slot(mpidr: u64, list: &[u64], answer: &mut [u32]) -> u32
     ensures number { λ r. ⌜ r ≡ orShort (now (answer .entry)) (slotAnswer mpidr (now (list .entry)) .number) ⌝ }
-    ensures answer { λ _. ⌜ now (answer .exit) ≡ answered (now (answer .entry)) (slotWords mpidr (now (list .entry))) ⌝ }
+    ensures answer { λ _. ⌜ now (answer .exit) ≡ answerAfter (now (answer .entry)) (slotWords mpidr (now (list .entry))) ⌝ }
 {
     if answer.len() < ANSWER_WORDS {
-        return SHORT_ANSWER;
+        return rules::ANSWER_SPACE;
     }
     let found = affinity::list_slot(mpidr, list);
     put_answer(

@@ -1,13 +1,13 @@
 // The reading call.
 use crate::answer::ANSWER_WORDS;
 use crate::answer::put_answer;
-use laws::SHORT_ANSWER;
+use laws::rules;
 ghost use mathlib.Core.Path.{_≡_};
 ghost use lib.ListN.{length};
-ghost use Rattle.tables.specs.Board.{board};
-ghost use Rattle.board.specs.Answer.{answerOf};
-ghost use Rattle.exports.specs.Answer.{orShort, answered};
-ghost use Rattle.exports.specs.Board.{boardWords, rowsBehind};
+ghost use Rattle.tables.specs.facts.Board.{board};
+ghost use Rattle.demands.specs.answers.Answer.{answerOf};
+ghost use Rattle.exports.specs.answers.Answer.{orShort, answerAfter};
+ghost use Rattle.exports.specs.answers.Board.{boardWords, rowsBehind};
 
 // Reads a board's tables: rows and answer, or the first rule broken.
 #[no_mangle]
@@ -27,10 +27,10 @@ pub extern "C" fn sunderwath_read_tables(
         ⌜ now (rows .exit) ≡ rowsBehind (now (answer .entry)) b (now (rows .entry)) ⌝ }
     ensures answer { λ _.
         let b = board width (now (nodes .entry)) (now (props .entry)) (now (pool .entry)) in
-        ⌜ now (answer .exit) ≡ answered (now (answer .entry)) (boardWords (answerOf b (length (now (rows .entry))))) ⌝ }
+        ⌜ now (answer .exit) ≡ answerAfter (now (answer .entry)) (boardWords (answerOf b (length (now (rows .entry))))) ⌝ }
 {
     if answer.len() < ANSWER_WORDS {
-        return SHORT_ANSWER;
+        return rules::ANSWER_SPACE;
     }
     let found = board::read_tables(width, nodes, props, pool, rows);
     let hash = found.hash;

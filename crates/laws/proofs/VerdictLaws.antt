@@ -2,7 +2,7 @@
 use mathlib.Core.Path.{_≡_, refl}
 use Prim.Native.Nat.{ℕ, zero, suc, _≤_, _<_}
 use native.Mathlib.Omega.{arith}
-use Rattle.laws.specs.Fault.{told, firstFault}
+use Rattle.laws.specs.answers.Fault.{told, firstFault}
 use Rattle.laws.proofs.FirstLaws.{Tells, Stage, stage-tells}
 
 -- the number told of rule n at a place: 0 where P holds, and n where the rule is broken

@@ -8,8 +8,8 @@ use lib.Seq.{ext-getD, getD-append-add}
 use borrow.Author.Tests.{le-ltb}
 use Rattle.laws.proofs.SearchLaws.{below-suc}
 use Rattle.layout.specs.declared.Row.{Row}
-use Rattle.layout.specs.Row.{rowSize, rowWords, withRow}
-use Rattle.layout.specs.Row.{rowLeaf, rowCpu, rowUpper, rowLower, rowSocket, rowCluster, rowCore, rowThread, rowSlot}
+use Rattle.layout.specs.facts.Row.{rowSize, rowLeaf, rowCpu, rowUpper, rowLower, rowSocket, rowCluster, rowCore, rowThread, rowSlot}
+use Rattle.layout.specs.answers.Words.{rowWords, withRow}
 
 pub row-length : (r : Row) → length (rowWords r) ≡ rowSize
 unfolding rowWords

@@ -1,2 +1,3 @@
 -- What the contracts of `layout` cite: the words of a row, and rows in a table.
-pub mod Row
+pub mod facts
+pub mod answers

@@ -1,6 +1,6 @@
 // The layout of rows: twelve words for each leaf, one row behind the other.
 ghost use mathlib.Core.Path.{_≡_};
-ghost use Rattle.layout.specs.Row.{withRow};
+ghost use Rattle.layout.specs.answers.Words.{withRow};
 
 // The words of a row.
 pub const ROW_WORDS: usize = 12;

@@ -5,16 +5,16 @@ use Prim.Native.Nat.{ℕ, zero, suc, _≤_, _<_}
 use lib.Dec.{eqb, ltb}
 use lib.ListN.{length}
 use borrow.Author.Tests.{eqb-true, eqb-false, ltb-true, ltb-false}
-use Rattle.laws.specs.Fault.{orNumber}
+use Rattle.laws.specs.answers.Fault.{orNumber}
 use Rattle.laws.proofs.SearchLaws.{true-false}
 use Rattle.laws.proofs.FaultLaws.{or-number-zero, or-number-right}
-use Rattle.tables.specs.Tree.{isBelow}
+use Rattle.tables.specs.answers.Tree.{isBelow}
 use Rattle.leaves.specs.declared.RecordCheck.{RecordCheck}
-use Rattle.cpumap.specs.Path.{topologyName}
-use Rattle.cpumap.specs.Number.{kindNumber}
-use Rattle.topology.specs.Check.{groupFault, isLeafName, mapRecordFault, mapRecordShape, recordShape}
-use Rattle.leaves.specs.Check.{leafCpu, broken, recordCheck}
-use Rattle.leaves.specs.Scan.{Tree, check, repeatFault, treeFault}
+use Rattle.cpumap.specs.answers.Path.{topologyName}
+use Rattle.cpumap.specs.answers.Number.{kindNumber}
+use Rattle.topology.specs.answers.Check.{groupFault, isLeafName, mapRecordFault, mapRecordShape, recordShape}
+use Rattle.leaves.specs.answers.Check.{leafCpu, broken, recordCheck}
+use Rattle.leaves.specs.answers.Scan.{Tree, check, repeatFault, treeFault}
 
 module _ (t : Tree) (i : ℕ) where
   -- the smallest of 19 to 23 that record i breaks below the map, whether its name is a leaf's, and the cpu that it names
@@ -27,8 +27,8 @@ module _ (t : Tree) (i : ℕ) where
   abbrev pub named : ℕ
   named = leafCpu (t .cells) (t .phandles) i
 
-  abbrev pub strayNumber : ℕ
-  strayNumber = cond (eqb (kindNumber (topologyName (t .nodes) (t .pool) i)) 0) 0 18
+  abbrev pub outsideNumber : ℕ
+  outsideNumber = cond (eqb (kindNumber (topologyName (t .nodes) (t .pool) i)) 0) 0 18
 
   -- no leaf: number v
   abbrev pub Answers : ℕ → Type 0
@@ -46,7 +46,7 @@ module _ (t : Tree) (i : ℕ) where
   pub data Checked : Type 0 where
     top : i ≡ 0 → Answers 0 → Checked
     map : (i ≡ 0 → ⊥) → i ≡ t .root → Answers (groupFault (t .nodes) i) → Checked
-    outside : (i ≡ 0 → ⊥) → (i ≡ t .root → ⊥) → isBelow (t .nodes) i (t .root) ≡ false → Answers strayNumber → Checked
+    outside : (i ≡ 0 → ⊥) → (i ≡ t .root → ⊥) → isBelow (t .nodes) i (t .root) ≡ false → Answers outsideNumber → Checked
     misshapen : Under → (shapeNumber ≡ 0 → ⊥) → Answers shapeNumber → Checked
     inner : Under → shapeNumber ≡ 0 → leafName ≡ false → Answers 0 → Checked
     nameless : Under → shapeNumber ≡ 0 → leafName ≡ true → length (t .phandles) ≤ named → Answers 24 → Checked

@@ -6,18 +6,18 @@ use native.Mathlib.Omega.{arith}
 use lib.ListN.{length}
 use Rattle.laws.proofs.SearchLaws.{true-false}
 use Rattle.names.specs.declared.TopologyName.{TopologyName}
-use Rattle.names.specs.Kind.{Kind}
-use Rattle.tables.specs.Board.{Board, Typed}
-use Rattle.wellformed.specs.Rules.{WellFormed}
+use Rattle.names.specs.facts.Kind.{Kind}
+use Rattle.tables.specs.facts.Board.{Board, WordSized}
+use Rattle.wellformed.specs.facts.Rules.{WellFormed}
 use Rattle.tables.proofs.DepthLaws.{below-test, ancestor-earlier}
 use Rattle.wellformed.proofs.WellFormedLaws.{wf-depth}
-use Rattle.cpus.specs.Rules.{SoundPhandles}
-use Rattle.cpus.specs.Check.{cpuList}
+use Rattle.cpus.specs.facts.Rules.{SoundPhandles}
+use Rattle.cpus.specs.answers.Check.{cpuList}
 use Rattle.leaves.specs.declared.RecordCheck.{RecordCheck}
-use Rattle.cpumap.specs.Map.{Map, InMap, Leaf, Names}
-use Rattle.cpumap.specs.Path.{topologyName}
-use Rattle.topology.specs.Check.{hasChild, isLeafName}
-use Rattle.leaves.specs.Scan.{Tree, treeAt, check, isLeaf, cpuOf}
+use Rattle.cpumap.specs.facts.Map.{Map, InMap, Leaf, Names}
+use Rattle.cpumap.specs.answers.Path.{topologyName}
+use Rattle.topology.specs.answers.Check.{hasChild, isLeafName}
+use Rattle.leaves.specs.answers.Scan.{Tree, treeAt, check, isLeaf, cpuOf}
 use Rattle.topology.proofs.ChildMeans.{childless-test}
 use Rattle.cpumap.proofs.NameFacts.{Says, topology-is, topology-says}
 use Rattle.cpumap.proofs.MapMeans.{leaf-in-map, in-map-inside, in-map-below}
@@ -58,7 +58,7 @@ module _ {b : Board} {m : ℕ} (is-map : Map b m) (i : ℕ) where
       let lt = ancestor-earlier a in
       record { not-top = λ e. omega arith; not-map = λ e. omega arith; below = below-test m i .1 a }
 
-module _ {b : Board} (typed : Typed b) (well : WellFormed b) (handles : SoundPhandles b) {m : ℕ} (is-map : Map b m) (i : ℕ) where
+module _ {b : Board} (sized : WordSized b) (well : WellFormed b) (handles : SoundPhandles b) {m : ℕ} (is-map : Map b m) (i : ℕ) where
   abbrev t : Tree
   t = treeAt b m
 
@@ -67,7 +67,7 @@ module _ {b : Board} (typed : Typed b) (well : WellFormed b) (handles : SoundPha
   check-leaf h =
       let n = leaf-is t i h in (
         name-leaf well i (under-in-map is-map i (n .under)) (n .name),
-        rw (n .cpu) (index-names typed well handles i (rw (n .cpu) at (n .inside))),
+        rw (n .cpu) (index-names sized well handles i (rw (n .cpu) at (n .inside))),
         in-cpus b (n .inside),
       )
 
@@ -86,4 +86,4 @@ module _ {b : Board} (typed : Typed b) (well : WellFormed b) (handles : SoundPha
 
   -- the cpu answered is the index of the cpu record that the leaf names
   pub names-cpu : (c : ℕ) → isLeaf t i ≡ true → Names b i c → cpuOf t i ≡ cpuIndex b c
-  names-cpu c h n = leaf-is t i h .cpu ∙ names-index typed well handles i c n
+  names-cpu c h n = leaf-is t i h .cpu ∙ names-index sized well handles i c n

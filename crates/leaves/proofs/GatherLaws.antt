@@ -10,18 +10,18 @@ use lib.Dec.{eqb}
 use lib.ListN.{length, getD, set, replicate, length-set, length-replicate, getD-replicate, List·getD-eq-default}
 use lib.Seq.{getD-set-same, getD-set-other}
 use borrow.Author.Tests.{ne-eqb, eqb-true, eqb-false}
-use Rattle.laws.specs.Fault.{clear, orNumber, firstFault}
-use Rattle.laws.specs.Search.{anyBelow, countBelow, listBelow}
-use Rattle.laws.specs.Listed.{over}
+use Rattle.laws.specs.answers.Fault.{clear, orNumber, firstFault}
+use Rattle.laws.specs.answers.Search.{anyBelow, countBelow, listBelow}
+use Rattle.laws.specs.answers.Listed.{laidOver}
 use Rattle.laws.proofs.SearchLaws.{lt-or-le, count-yes, count-no, list-no, list-length}
 use Rattle.laws.proofs.FaultLaws.{clear-more, at-fault, at-end}
 use Rattle.laws.proofs.GatherLaws.{gathered-length, gathered-more}
 use Rattle.laws.proofs.OverLaws.{over-none, over-add, listed-yes, listed-no}
-use Rattle.tables.specs.Board.{nodeCount}
-use Rattle.cpus.specs.Rules.{maxCpus}
+use Rattle.tables.specs.facts.Board.{nodeCount}
+use Rattle.laws.specs.facts.Limits.{maxCpus}
 use Rattle.leaves.specs.declared.RecordCheck.{RecordCheck}
-use Rattle.leaves.specs.Scan.{Tree, check, isLeaf, cpuOf, namedBelow, treeFault, leafList, passed}
-use Rattle.leaves.specs.Pass.{isMarked, Marked, Left, checkedFault, leafScan}
+use Rattle.leaves.specs.answers.Scan.{Tree, check, isLeaf, cpuOf, namedBelow, treeFault, leafList, passed}
+use Rattle.leaves.specs.steps.Pass.{isMarked, Marked, PassArrays, checkedFault, leafScan}
 use Rattle.leaves.proofs.LeafCount.{leaves-fit}
 
 module _ (t : Tree) where
@@ -60,8 +60,8 @@ module _ (t : Tree) (leaves₀ named₀ : List ℕ) where
   pub record Gathered (marks leaves named : List ℕ) (count i : ℕ) : Type 0 where
     pub clean : firstFault (treeFault t) i ≡ clear
     pub counted : count ≡ countBelow (isLeaf t) i
-    pub leaves-are : leaves ≡ over (listBelow (isLeaf t) i) leaves₀
-    pub named-are : named ≡ over (map (cpuOf t) (listBelow (isLeaf t) i)) named₀
+    pub leaves-are : leaves ≡ laidOver (listBelow (isLeaf t) i) leaves₀
+    pub named-are : named ≡ laidOver (map (cpuOf t) (listBelow (isLeaf t) i)) named₀
     pub marks-are : Marked t i marks
 
   pub gathered-none : {marks : List ℕ} → marks ≡ replicate 256 0 → Gathered marks leaves₀ named₀ 0 0
@@ -77,7 +77,7 @@ module _ (t : Tree) (leaves₀ named₀ : List ℕ) where
 
     -- what is left in the arrays where the pass ends at record i
     abbrev LeftHere : Type 0
-    LeftHere = Left t leaves₀ named₀ marks leaves named
+    LeftHere = PassArrays t leaves₀ named₀ marks leaves named
 
     left : passed t ≡ i → LeftHere
     left e = record { marks-left = rw e (g .marks-are); leaves-left = rw e (g .leaves-are); named-left = rw e (g .named-are) }
@@ -137,6 +137,6 @@ module _ (t : Tree) (leaves₀ named₀ : List ℕ) where
               named-are =
                   ap₂ (λ (x : List ℕ) (y : ℕ). set x count y) (g .named-are) q
                   ∙ over-add (map (cpuOf t) (listBelow (isLeaf t) i)) named₀ (cpuOf t i) count (gathered-length (isLeaf t) (cpuOf t) i ∙ sym (g .counted))
-                  ∙ ap (λ (x : List ℕ). over x named₀) (sym (gathered-more (isLeaf t) (cpuOf t) i h));
+                  ∙ ap (λ (x : List ℕ). laidOver x named₀) (sym (gathered-more (isLeaf t) (cpuOf t) i h));
               marks-are = mark-push t (g .marks-are) q lt h;
             }

@@ -6,16 +6,16 @@ use native.Mathlib.Omega.{arith}
 use lib.Dec.{eqb}
 use lib.ListN.{length}
 use borrow.Author.Tests.{eq-eqb, eqb-true}
-use Rattle.laws.specs.Fault.{clear, firstFault}
-use Rattle.laws.specs.Search.{listBelow}
+use Rattle.laws.specs.answers.Fault.{clear, firstFault}
+use Rattle.laws.specs.answers.Search.{listBelow}
 use Rattle.laws.proofs.SearchLaws.{true-false, any-at, any-place}
 use Rattle.laws.proofs.TestLaws.{both-true}
 use Rattle.laws.proofs.FaultLaws.{below-clear, or-number-zero}
 use Rattle.laws.proofs.ListingLaws.{listed}
 use Rattle.laws.proofs.IndexLaws.{listing-below}
-use Rattle.cpus.specs.Rules.{maxCpus}
+use Rattle.laws.specs.facts.Limits.{maxCpus}
 use Rattle.leaves.specs.declared.RecordCheck.{RecordCheck}
-use Rattle.leaves.specs.Scan.{Tree, check, isLeaf, cpuOf, namedBelow, repeatFault, treeFault}
+use Rattle.leaves.specs.answers.Scan.{Tree, check, isLeaf, cpuOf, namedBelow, repeatFault, treeFault}
 use Rattle.leaves.proofs.CheckCases.{shapeNumber, leafName, named, Answers, Under, Checked, checked}
 
 -- a record that the check answers as a leaf

@@ -7,45 +7,45 @@ use native.Mathlib.Omega.{arith}
 use lib.Dec.{eqb}
 use lib.ListN.{length, getD}
 use borrow.Author.Tests.{eq-eqb, eqb-true}
-use Rattle.laws.specs.Search.{lowest}
+use Rattle.laws.specs.answers.Search.{lowest}
 use Rattle.laws.proofs.SearchLaws.{true-false, lt-or-le, lowest-below, lowest-passes}
-use Rattle.tables.specs.Board.{Board, Typed}
-use Rattle.tables.specs.Property.{cellBytes}
-use Rattle.wellformed.specs.Rules.{WellFormed}
-use Rattle.keys.specs.Key.{cpuKey}
+use Rattle.tables.specs.facts.Board.{Board, WordSized}
+use Rattle.tables.specs.facts.Property.{cellBytes}
+use Rattle.wellformed.specs.facts.Rules.{WellFormed}
+use Rattle.tables.specs.facts.Binding.{cpuKey}
 use Rattle.cpus.specs.declared.Value.{Value}
-use Rattle.cpus.specs.declared.Value.the-variants.{Is, Not}
-use Rattle.cpus.specs.Node.{Phandle}
-use Rattle.cpus.specs.Rules.{SoundPhandles}
-use Rattle.cpus.specs.Cell.{cellOf}
-use Rattle.cpus.specs.Check.{cpuList, phandleList}
+use Rattle.cpus.specs.declared.Value.the-variants.{Number, Invalid}
+use Rattle.cpus.specs.facts.Node.{Phandle}
+use Rattle.cpus.specs.facts.Rules.{SoundPhandles}
+use Rattle.cpus.specs.answers.Cell.{cellOf}
+use Rattle.cpus.specs.answers.Check.{cpuList, phandleList}
 use Rattle.cpus.proofs.ValueMeans.{value-unique, cell-test, test-cell}
-use Rattle.cpumap.specs.Map.{Names}
-use Rattle.leaves.specs.Check.{indexOf, leafCpu, cpuCells}
+use Rattle.cpumap.specs.facts.Map.{Names}
+use Rattle.leaves.specs.answers.Check.{indexOf, leafCpu, cpuCells}
 use Rattle.leaves.proofs.PhandleMeans.{cpuAt, cpuIndex, in-cpus, in-phandles, cpu-index, index-cpu, phandle-at, index-apart}
 
 -- the index that a record's `cpu` gives
 abbrev pub namedIndex : Board → ℕ → ℕ
 namedIndex b i = leafCpu (cpuCells (b .props) (b .pool)) (phandleList b) i
 
-module _ {b : Board} (typed : Typed b) (well : WellFormed b) (handles : SoundPhandles b) where
+module _ {b : Board} (sized : WordSized b) (well : WellFormed b) (handles : SoundPhandles b) where
   -- it is that of a cpu record which the record names ..
   pub index-names : (i : ℕ) → namedIndex b i < length (phandleList b) → Names b i (cpuAt b (namedIndex b i))
   unfolding leafCpu
   index-names i = go (cellOf (b .props) (b .pool) i cpuKey) refl
     where
       go : (x : Value) → cellOf (b .props) (b .pool) i cpuKey ≡ x → indexOf (phandleList b) x < length (phandleList b) → Names b i (cpuAt b (indexOf (phandleList b) x))
-      go Not e lt = absurd (omega arith)
-      go (Is w) e lt =
+      go Invalid e lt = absurd (omega arith)
+      go (Number w) e lt =
           let test : ℕ → Bool = λ j. eqb (getD (phandleList b) j 0) w in
           let k = lowest test (length (phandleList b)) in
           let same : getD (phandleList b) k 0 ≡ w = eqb-true _ _ (lowest-passes test (length (phandleList b)) lt) in
           record {
             value = cellBytes w;
             four = refl;
-            cpu = cell-test typed well i cpuKey e .0;
+            cpu = cell-test sized well i cpuKey e .0;
             is-cpu = index-cpu well k (in-cpus b lt);
-            phandle = rw same at (phandle-at typed well handles k (in-cpus b lt) .value);
+            phandle = rw same at (phandle-at sized well handles k (in-cpus b lt) .value);
           }
 
   -- .. and a record that names a cpu record gives its index
@@ -63,10 +63,10 @@ module _ {b : Board} (typed : Typed b) (well : WellFormed b) (handles : SoundPha
       in-k = cpu-index well c (n .is-cpu) .0
 
       of-c : Phandle b c h
-      of-c = rw (cpu-index well c (n .is-cpu) .1) at (phandle-at typed well handles k in-k)
+      of-c = rw (cpu-index well c (n .is-cpu) .1) at (phandle-at sized well handles k in-k)
 
-      cell-is : cellOf (b .props) (b .pool) i cpuKey ≡ Is h
-      cell-is = test-cell typed well i cpuKey (rw (value-unique well (n .phandle) (of-c .value)) at (n .cpu)) (of-c .word)
+      cell-is : cellOf (b .props) (b .pool) i cpuKey ≡ Number h
+      cell-is = test-cell sized well i cpuKey (rw (value-unique well (n .phandle) (of-c .value)) at (n .cpu)) (of-c .word)
 
       test : ℕ → Bool
       test j = eqb (getD (phandleList b) j 0) h
@@ -80,7 +80,7 @@ module _ {b : Board} (typed : Typed b) (well : WellFormed b) (handles : SoundPha
       found : first ≡ k
       found =
           let in-first : first < length (phandleList b) = omega (arith, in-phandles b in-k, first-le) in
-          index-apart typed well handles first k (in-cpus b in-first) in-k (eqb-true _ _ (lowest-passes test (length (phandleList b)) in-first))
+          index-apart sized well handles first k (in-cpus b in-first) in-k (eqb-true _ _ (lowest-passes test (length (phandleList b)) in-first))
 
   -- so it is an index where the record names a cpu record, the only one, and else none
   pub names-inside : (i c : ℕ) → Names b i c → namedIndex b i < length (phandleList b)

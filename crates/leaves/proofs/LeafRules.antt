@@ -3,20 +3,20 @@ use mathlib.Core.Path.{_≡_, refl, sym, _∙_}
 use mathlib.Core.Bool.{Bool, true, false, cond}
 use Prim.Native.Nat.{ℕ, _≤_, _<_}
 use native.Mathlib.Omega.{arith}
-use Rattle.laws.specs.Search.{countBelow}
+use Rattle.laws.specs.answers.Search.{countBelow}
 use Rattle.laws.proofs.SearchLaws.{true-false}
 use Rattle.laws.proofs.VerdictLaws.{Verdict}
 use Rattle.laws.proofs.LeastLaws.{Tested}
-use Rattle.tables.specs.Board.{Board, Typed, nodeCount}
-use Rattle.wellformed.specs.Rules.{WellFormed}
-use Rattle.cpus.specs.Node.{Cpu}
-use Rattle.cpus.specs.Rules.{SoundPhandles}
-use Rattle.cpus.specs.Check.{isCpu}
+use Rattle.tables.specs.facts.Board.{Board, WordSized, nodeCount}
+use Rattle.wellformed.specs.facts.Rules.{WellFormed}
+use Rattle.cpus.specs.facts.Node.{Cpu}
+use Rattle.cpus.specs.facts.Rules.{SoundPhandles}
+use Rattle.cpus.specs.answers.Check.{isCpu}
 use Rattle.cpus.proofs.CpuMeans.{cpu-test}
-use Rattle.cpumap.specs.Map.{Map, Leaf, Names}
+use Rattle.cpumap.specs.facts.Map.{Map, Leaf, Names}
 use Rattle.cpumap.proofs.MapMeans.{leaf-in-map, in-map-inside}
-use Rattle.topology.specs.Rules.{MapRule}
-use Rattle.leaves.specs.Scan.{Tree, treeAt, check, isLeaf, cpuOf, namedBelow, repeatFault}
+use Rattle.topology.specs.facts.Rules.{MapRule}
+use Rattle.leaves.specs.answers.Scan.{Tree, treeAt, check, isLeaf, cpuOf, namedBelow, repeatFault}
 use Rattle.leaves.proofs.LeafCount.{named-at, named-by}
 use Rattle.leaves.proofs.PhandleMeans.{cpuAt, cpuIndex, cpu-index}
 use Rattle.leaves.proofs.CheckLeaf.{check-leaf, leaf-check, names-cpu}
@@ -32,15 +32,15 @@ Twice b i = (j : ℕ) × (c : ℕ) × Leaf b i × Leaf b j × (j < i) × Names b
 
 module _ {b : Board} {i : ℕ} where
   pub rule-24 : MapRule b 24 i → Leaf b i × ((c : ℕ) → Names b i c → ⊥)
-  rule-24 (MapRule.namesNone _ l none) = (l, none)
+  rule-24 (MapRule.cpuMapPhandle _ l none) = (l, none)
 
   pub rule-25 : MapRule b 25 i → Twice b i
-  rule-25 (MapRule.namedTwice _ j c l k lt m n) = (j, c, l, k, lt, m, n)
+  rule-25 (MapRule.cpuMapCpuRepeated _ j c l k lt m n) = (j, c, l, k, lt, m, n)
 
   pub rule-26 : MapRule b 26 i → Cpu b i × ((j : ℕ) → Leaf b j → Names b j i → ⊥)
-  rule-26 (MapRule.unmapped _ cpu none) = (cpu, none)
+  rule-26 (MapRule.cpuUnmapped _ cpu none) = (cpu, none)
 
-module _ {b : Board} (typed : Typed b) (well : WellFormed b) (handles : SoundPhandles b) {m : ℕ} (is-map : Map b m) where
+module _ {b : Board} (sized : WordSized b) (well : WellFormed b) (handles : SoundPhandles b) {m : ℕ} (is-map : Map b m) where
   abbrev t : Tree
   t = treeAt b m
 
@@ -49,14 +49,14 @@ module _ {b : Board} (typed : Typed b) (well : WellFormed b) (handles : SoundPha
   repeat-tested i clean = go (isLeaf t i) refl (namedBelow t i (cpuOf t i)) refl
     where
       found : (j : ℕ) → Leaf b j → j ≤ i → isLeaf t j ≡ true
-      found j l le = leaf-check typed well handles is-map j l (clean j le)
+      found j l le = leaf-check sized well handles is-map j l (clean j le)
 
       broken : isLeaf t i ≡ true → namedBelow t i (cpuOf t i) ≡ true → MapRule b 25 i
       broken h e =
           let w = named-by t i (cpuOf t i) e in
-          let here = check-leaf typed well handles is-map i h in
-          let there = check-leaf typed well handles is-map (w .0) (w .2) in
-          MapRule.namedTwice i (w .0) (cpuAt b (cpuOf t i)) (here .0) (there .0) (w .1) (here .1) (rw (w .3) at (there .1))
+          let here = check-leaf sized well handles is-map i h in
+          let there = check-leaf sized well handles is-map (w .0) (w .2) in
+          MapRule.cpuMapCpuRepeated i (w .0) (cpuAt b (cpuOf t i)) (here .0) (there .0) (w .1) (here .1) (rw (w .3) at (there .1))
 
       named-twice : MapRule b 25 i → (isLeaf t i ≡ true) × (namedBelow t i (cpuOf t i) ≡ true)
       named-twice r =
@@ -64,8 +64,8 @@ module _ {b : Board} (typed : Typed b) (well : WellFormed b) (handles : SoundPha
           let lt = w .4 in
           let li = found i (w .2) (omega arith) in
           let lj = found (w .0) (w .3) (omega arith) in
-          let there = names-cpu typed well handles is-map (w .0) (w .1) lj (w .6) in
-          let same : cpuOf t (w .0) ≡ cpuOf t i = there ∙ sym (names-cpu typed well handles is-map i (w .1) li (w .5)) in
+          let there = names-cpu sized well handles is-map (w .0) (w .1) lj (w .6) in
+          let same : cpuOf t (w .0) ≡ cpuOf t i = there ∙ sym (names-cpu sized well handles is-map i (w .1) li (w .5)) in
           (li, rw same at (named-at t i (w .0) lt lj))
 
       go : (l : Bool) → isLeaf t i ≡ l → (s : Bool) → namedBelow t i (cpuOf t i) ≡ s → Tested 25 (MapRule b 25 i) (repeatFault t i)
@@ -77,7 +77,7 @@ module _ {b : Board} (typed : Typed b) (well : WellFormed b) (handles : SoundPha
   pub cpu-named : (c : ℕ) → Cpu b c → namedBelow t (nodeCount (b .nodes)) (cpuIndex b c) ≡ true → (i : ℕ) × Leaf b i × Names b i c
   cpu-named c cpu e =
       let w = named-by t (nodeCount (b .nodes)) (cpuIndex b c) e in
-      let s = check-leaf typed well handles is-map (w .0) (w .2) in
+      let s = check-leaf sized well handles is-map (w .0) (w .2) in
       (w .0, s .0, rw (w .3, cpu-index well c cpu .1) at (s .1))
 
   -- .. and any other is not, where the check answers nothing
@@ -85,8 +85,8 @@ module _ {b : Board} (typed : Typed b) (well : WellFormed b) (handles : SoundPha
     pub cpu-unnamed : (c : ℕ) → namedBelow t (nodeCount (b .nodes)) (cpuIndex b c) ≡ false → (i : ℕ) → Leaf b i → Names b i c → ⊥
     cpu-unnamed c e i l n =
         let lt = in-map-inside (leaf-in-map l) in
-        let h = leaf-check typed well handles is-map i l (clean i lt) in
-        true-false (rw (names-cpu typed well handles is-map i c h n) at (named-at t (nodeCount (b .nodes)) i lt h)) e
+        let h = leaf-check sized well handles is-map i l (clean i lt) in
+        true-false (rw (names-cpu sized well handles is-map i c h n) at (named-at t (nodeCount (b .nodes)) i lt h)) e
 
     -- rule 26 at record i
     pub unmapped-told : (i : ℕ) → Verdict (MapRule b) 26 i (MapRule b 26 i → ⊥) (unmappedFault t i)
@@ -103,5 +103,5 @@ module _ {b : Board} (typed : Typed b) (well : WellFormed b) (handles : SoundPha
             namedBelow t (nodeCount (b .nodes)) (cpuIndex b i) ≡ s →
             Verdict (MapRule b) 26 i (MapRule b 26 i → ⊥) (cond l (cond s 0 26) 0)
         go true e true f = Verdict.sound (kept f)
-        go true e false f = Verdict.broken (MapRule.unmapped i (cpu-test well i .0 e) (cpu-unnamed i f))
+        go true e false f = Verdict.broken (MapRule.cpuUnmapped i (cpu-test well i .0 e) (cpu-unnamed i f))
         go false e s f = Verdict.sound (λ r. true-false (cpu-test well i .1 (rule-26 r .0)) e)

@@ -2,13 +2,14 @@
 use mathlib.Core.Path.{_≡_, sym, _∙_}
 use Prim.Native.Nat.{ℕ, _≤_, _<_}
 use lib.ListN.{length, getD, length-map}
-use Rattle.laws.specs.Search.{countBelow}
+use Rattle.laws.specs.answers.Search.{countBelow}
 use Rattle.laws.proofs.IndexLaws.{index-of, index-unique, getD-map-lt}
-use Rattle.tables.specs.Board.{Board, Typed, nodeCount}
-use Rattle.wellformed.specs.Rules.{WellFormed}
-use Rattle.cpus.specs.Node.{Cpu, Phandle}
-use Rattle.cpus.specs.Rules.{maxCpus, SoundCpus, SoundPhandles}
-use Rattle.cpus.specs.Check.{isCpu, cpuList, phandleReadings, phandleList}
+use Rattle.tables.specs.facts.Board.{Board, WordSized, nodeCount}
+use Rattle.wellformed.specs.facts.Rules.{WellFormed}
+use Rattle.cpus.specs.facts.Node.{Cpu, Phandle}
+use Rattle.laws.specs.facts.Limits.{maxCpus}
+use Rattle.cpus.specs.facts.Rules.{SoundCpus, SoundPhandles}
+use Rattle.cpus.specs.answers.Check.{isCpu, cpuList, phandleReadings, phandleList}
 use Rattle.cpus.proofs.CpuMeans.{cpu-test, cpu-listing, cpu-count}
 use Rattle.cpus.proofs.CpuGives.{count-range, cpu-phandle, phandle-distinct}
 
@@ -38,19 +39,19 @@ module _ {b : Board} (well : WellFormed b) where
   pub index-cpu : (k : ℕ) → k < length (cpuList b) → Cpu b (cpuAt b k)
   index-cpu = cpu-listing well .only
 
-module _ {b : Board} (typed : Typed b) (well : WellFormed b) where
+module _ {b : Board} (sized : WordSized b) (well : WellFormed b) where
   pub few-phandles : SoundCpus b → length (phandleList b) ≤ maxCpus
-  few-phandles sound = rw (phandle-count b, ← cpu-count b) (count-range typed well sound .1)
+  few-phandles sound = rw (phandle-count b, ← cpu-count b) (count-range sized well sound .1)
 
   module _ (handles : SoundPhandles b) where
     number-at : (k : ℕ) → k < length (cpuList b) → getD (phandleList b) k 0 ≡ phandleNumber b (cpuAt b k)
     number-at k lt = getD-map-lt (phandleNumber b) (cpuList b) k lt
 
     pub phandle-at : (k : ℕ) → k < length (cpuList b) → Phandle b (cpuAt b k) (getD (phandleList b) k 0)
-    phandle-at k lt = rw (number-at k lt) (cpu-phandle typed well handles (index-cpu well k lt))
+    phandle-at k lt = rw (number-at k lt) (cpu-phandle sized well handles (index-cpu well k lt))
 
     -- different cpu records have different phandles
     pub index-apart : (j k : ℕ) → j < length (cpuList b) → k < length (cpuList b) → getD (phandleList b) j 0 ≡ getD (phandleList b) k 0 → j ≡ k
     index-apart j k lj lk e =
         index-unique (cpu-listing well) j k lj lk
-        (phandle-distinct typed well handles (index-cpu well j lj) (index-cpu well k lk) (sym (number-at j lj) ∙ e ∙ number-at k lk))
+        (phandle-distinct sized well handles (index-cpu well j lj) (index-cpu well k lk) (sym (number-at j lj) ∙ e ∙ number-at k lk))

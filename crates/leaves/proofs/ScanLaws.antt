@@ -7,20 +7,20 @@ use native.Mathlib.Omega.{arith}
 use lib.ListN.{length, getD, take}
 use borrow.Author.Tests.{eq-eqb, ne-eqb}
 use Rattle.laws.specs.declared.Fault.{Fault}
-use Rattle.laws.specs.Fault.{clear, told, orElse, firstFault}
-use Rattle.laws.specs.Listed.{over, toldOf}
+use Rattle.laws.specs.answers.Fault.{clear, told, orElse, firstFault}
+use Rattle.laws.specs.answers.Listed.{laidOver, faultOfMember}
 use Rattle.laws.proofs.FaultLaws.{or-first, or-second, below-clear}
 use Rattle.laws.proofs.OrElseLaws.{or-clear}
 use Rattle.laws.proofs.RuleStageLaws.{first-clears}
 use Rattle.laws.proofs.GatherLaws.{first-same}
 use Rattle.laws.proofs.CutLaws.{cut-same}
-use Rattle.tables.specs.Board.{nodeCount}
-use Rattle.wellformed.specs.Limits.{maxNodes}
-use Rattle.cpus.specs.Rules.{maxCpus}
+use Rattle.tables.specs.facts.Board.{nodeCount}
+use Rattle.laws.specs.facts.Limits.{maxNodes, maxCpus}
 use Rattle.leaves.specs.declared.TreeScan.{TreeScan}
-use Rattle.leaves.specs.Check.{keyCells}
-use Rattle.leaves.specs.Scan.{Tree, tree, lentTree, cpuOf, namedBelow, treeFault, leavesFault, leafList, scanned, treeScan, passed, leavesOver, namedOver}
-use Rattle.leaves.specs.Pass.{Marked, Left, leafScan, unmarkedFault}
+use Rattle.leaves.specs.answers.Check.{indexedCells}
+use Rattle.leaves.specs.answers.Scan.{Tree, tree, lentTree, cpuOf, namedBelow, treeFault, leavesFault, leafList, scanned, treeScan, passed}
+use Rattle.leaves.specs.answers.Scan.{leavesOver, namedOver}
+use Rattle.leaves.specs.steps.Pass.{Marked, PassArrays, leafScan, unmarkedFault}
 use Rattle.leaves.proofs.LeafCount.{leaves-le, clear-apart}
 use Rattle.leaves.proofs.GatherLaws.{marked-is}
 
@@ -33,7 +33,7 @@ module _ (t : Tree) (records : List ℕ) where
   unnamed = firstFault (λ k. cond (namedBelow t (nodeCount (t .nodes)) k) 0 26) (length records)
 
   abbrev last : Fault
-  last = toldOf records unnamed
+  last = faultOfMember records unnamed
 
   module _ {s : TreeScan} (e : s ≡ leafScan t) where
     stages : scanned t (orElse first last) ≡ treeScan t records
@@ -54,11 +54,11 @@ module _ (t : Tree) (records : List ℕ) where
       first-zero = sym number-is ∙ z
 
       -- the second pass looks for rule 26 among the marks of all leaves
-      pub last-is : {marks : List ℕ} {f : Fault} → Marked t (passed t) marks → f ≡ toldOf records (firstFault (unmarkedFault marks) (length records)) → f ≡ last
+      pub last-is : {marks : List ℕ} {f : Fault} → Marked t (passed t) marks → f ≡ faultOfMember records (firstFault (unmarkedFault marks) (length records)) → f ≡ last
       unfolding unmarkedFault
       last-is {marks} m h =
           let all : Marked t (nodeCount (t .nodes)) marks = rw (eq-eqb (first .number) 0 first-zero) at m in
-          h ∙ ap (toldOf records) (first-same (unmarkedFault marks) (λ k. cond (namedBelow t (nodeCount (t .nodes)) k) 0 26) (length records) (λ k lt _. ap (λ (b : Bool). cond b 0 26) (marked-is t all k)))
+          h ∙ ap (faultOfMember records) (first-same (unmarkedFault marks) (λ k. cond (namedBelow t (nodeCount (t .nodes)) k) 0 26) (length records) (λ k lt _. ap (λ (b : Bool). cond b 0 26) (marked-is t all k)))
 
       module _ {f : Fault} (h : f ≡ last) where
         second : scanned t f ≡ treeScan t records
@@ -87,22 +87,22 @@ module _ (t : Tree) (records : List ℕ) (z : leavesFault t records .number ≡ 
   pub leaves-few : length (leafList t) ≤ length (t .phandles)
   leaves-few = leaves-le t (nodeCount (t .nodes)) (clear-apart t (nodeCount (t .nodes)) (below-clear (treeFault t) (nodeCount (t .nodes)) first-clear))
 
-  pub leaves-listed : (before : List ℕ) → leavesOver t before ≡ over (leafList t) before
+  pub leaves-listed : (before : List ℕ) → leavesOver t before ≡ laidOver (leafList t) before
   leaves-listed before = rw first-clear
 
-  pub named-listed : (before : List ℕ) → namedOver t before ≡ over (map (cpuOf t) (leafList t)) before
+  pub named-listed : (before : List ℕ) → namedOver t before ≡ laidOver (map (cpuOf t) (leafList t)) before
   named-listed before = rw first-clear
 
 -- what the pass over the records answers and leaves, of the tree with the first m words and n phandles of lent slices
 pub cut-pass :
-    (nodes props pool keys : List ℕ) (root : ℕ) (phandles : List ℕ) {m n : ℕ} {s : TreeScan} {leaves₀ named₀ marks leaves named : List ℕ} →
+    (nodes props pool index : List ℕ) (root : ℕ) (phandles : List ℕ) {m n : ℕ} {s : TreeScan} {leaves₀ named₀ marks leaves named : List ℕ} →
     m ≡ min (length nodes) (3 * maxNodes) →
     n ≡ min (length phandles) maxCpus →
-    let t = tree (take m nodes) (keyCells props pool keys) pool root (take n phandles) in
-    (s ≡ leafScan t) × Left t leaves₀ named₀ marks leaves named →
-    let u = lentTree nodes props pool keys root phandles in
-    (s ≡ leafScan u) × Left u leaves₀ named₀ marks leaves named
-cut-pass nodes props pool keys root phandles {m} {n} {s} {leaves₀} {named₀} {marks} {leaves} {named} e f h =
-    subst (λ (t : Tree). (s ≡ leafScan t) × Left t leaves₀ named₀ marks leaves named)
-    (ap₂ (λ (x y : List ℕ). tree x (keyCells props pool keys) pool root y) (cut-same nodes (3 * maxNodes) e) (cut-same phandles maxCpus f))
+    let t = tree (take m nodes) (indexedCells props pool index) pool root (take n phandles) in
+    (s ≡ leafScan t) × PassArrays t leaves₀ named₀ marks leaves named →
+    let u = lentTree nodes props pool index root phandles in
+    (s ≡ leafScan u) × PassArrays u leaves₀ named₀ marks leaves named
+cut-pass nodes props pool index root phandles {m} {n} {s} {leaves₀} {named₀} {marks} {leaves} {named} e f h =
+    subst (λ (t : Tree). (s ≡ leafScan t) × PassArrays t leaves₀ named₀ marks leaves named)
+    (ap₂ (λ (x y : List ℕ). tree x (indexedCells props pool index) pool root y) (cut-same nodes (3 * maxNodes) e) (cut-same phandles maxCpus f))
     h

@@ -5,19 +5,20 @@ use mathlib.Core.Logic.{⊎-elim}
 use Prim.Native.Nat.{ℕ, _≤_, _<_}
 use native.Mathlib.Nat.{le-antisymm}
 use lib.ListN.{length}
-use Rattle.laws.specs.Listing.{Listing}
+use Rattle.laws.specs.facts.Listing.{Listing}
 use Rattle.laws.proofs.FirstLaws.{compared}
 use Rattle.laws.proofs.ListingLaws.{listed, listing-into}
-use Rattle.tables.specs.Board.{Board, Typed, nodeCount}
-use Rattle.wellformed.specs.Rules.{WellFormed}
-use Rattle.cpus.specs.Node.{Cpu}
-use Rattle.cpus.specs.Rules.{maxCpus, SoundCpus, SoundPhandles}
-use Rattle.cpus.specs.Check.{cpuList}
+use Rattle.tables.specs.facts.Board.{Board, WordSized, nodeCount}
+use Rattle.wellformed.specs.facts.Rules.{WellFormed}
+use Rattle.cpus.specs.facts.Node.{Cpu}
+use Rattle.laws.specs.facts.Limits.{maxCpus}
+use Rattle.cpus.specs.facts.Rules.{SoundCpus, SoundPhandles}
+use Rattle.cpus.specs.answers.Check.{cpuList}
 use Rattle.cpus.proofs.CpuMeans.{cpu-listing}
-use Rattle.cpumap.specs.Map.{Map, Leaf, Names}
+use Rattle.cpumap.specs.facts.Map.{Map, Leaf, Names}
 use Rattle.cpumap.proofs.MapMeans.{leaf-in-map, in-map-inside}
-use Rattle.topology.specs.Rules.{MapRule}
-use Rattle.leaves.specs.Scan.{Tree, treeAt, check, isLeaf, cpuOf, namedBelow, leafList}
+use Rattle.topology.specs.facts.Rules.{MapRule}
+use Rattle.leaves.specs.answers.Scan.{Tree, treeAt, check, isLeaf, cpuOf, namedBelow, leafList}
 use Rattle.leaves.proofs.PhandleMeans.{cpuAt, cpuIndex, phandle-count, few-phandles}
 use Rattle.leaves.proofs.LeafMeans.{names-unique}
 use Rattle.leaves.proofs.CheckLeaf.{check-leaf, leaf-check}
@@ -26,7 +27,7 @@ use Rattle.leaves.proofs.TreeLeast.{sound-checks}
 
 module _
     {b : Board}
-    (typed : Typed b)
+    (sized : WordSized b)
     (well : WellFormed b)
     (cpus : SoundCpus b)
     (handles : SoundPhandles b)
@@ -38,30 +39,30 @@ module _
     t = treeAt b m
 
     clean : (k : ℕ) → k < nodeCount (b .nodes) → check t k .number ≡ 0
-    clean = sound-checks typed well cpus handles is-map (λ n p r _. sound n p r)
+    clean = sound-checks sized well cpus handles is-map (λ n p r _. sound n p r)
 
     -- every leaf is answered as one
     pub leaf-answered : (i : ℕ) → Leaf b i → isLeaf t i ≡ true
-    leaf-answered i l = leaf-check typed well handles is-map i l (clean i (in-map-inside (leaf-in-map l)))
+    leaf-answered i l = leaf-check sized well handles is-map i l (clean i (in-map-inside (leaf-in-map l)))
 
     pub leaf-listing : Listing (Leaf b) (leafList t)
     leaf-listing =
         listed (isLeaf t) (nodeCount (b .nodes)) (λ i l. (in-map-inside (leaf-in-map l), leaf-answered i l))
-        (λ i _ h. check-leaf typed well handles is-map i h .0)
+        (λ i _ h. check-leaf sized well handles is-map i h .0)
 
     -- every leaf names the cpu record answered ..
     pub leaf-names : (i : ℕ) → Leaf b i → Names b i (cpuAt b (cpuOf t i))
-    leaf-names i l = check-leaf typed well handles is-map i (leaf-answered i l) .1
+    leaf-names i l = check-leaf sized well handles is-map i (leaf-answered i l) .1
 
     pub leaf-cpu : (i : ℕ) → Leaf b i → cpuOf t i < length (cpuList b)
-    leaf-cpu i l = check-leaf typed well handles is-map i (leaf-answered i l) .2
+    leaf-cpu i l = check-leaf sized well handles is-map i (leaf-answered i l) .2
 
     -- .. no two of them the same ..
     pub leaves-apart : (i j c : ℕ) → Leaf b i → Leaf b j → Names b i c → Names b j c → i ≡ j
     leaves-apart i j c l k p q =
         ⊎-elim
-        (λ lt. absurd (sound 25 j (MapRule.namedTwice j i c k l lt q p)))
-        (⊎-elim (λ e. e) (λ lt. absurd (sound 25 i (MapRule.namedTwice i j c l k lt p q))))
+        (λ lt. absurd (sound 25 j (MapRule.cpuMapCpuRepeated j i c k l lt q p)))
+        (⊎-elim (λ e. e) (λ lt. absurd (sound 25 i (MapRule.cpuMapCpuRepeated i j c l k lt p q))))
         (compared i j)
 
     -- .. and every cpu record is named
@@ -69,8 +70,8 @@ module _
     cpu-leaf c cpu = go (namedBelow t (nodeCount (b .nodes)) (cpuIndex b c)) refl
       where
         go : (s : Bool) → namedBelow t (nodeCount (b .nodes)) (cpuIndex b c) ≡ s → (i : ℕ) × Leaf b i × Names b i c
-        go true e = cpu-named typed well handles is-map c cpu e
-        go false e = absurd (sound 26 c (MapRule.unmapped c cpu (cpu-unnamed typed well handles is-map clean c e)))
+        go true e = cpu-named sized well handles is-map c cpu e
+        go false e = absurd (sound 26 c (MapRule.cpuUnmapped c cpu (cpu-unnamed sized well handles is-map clean c e)))
 
     -- so there are as many leaves as cpu records
     pub same-count : length (leafList t) ≡ length (cpuList b)
@@ -78,7 +79,7 @@ module _
         le-antisymm
         (listing-into {R = Names b} (leafList t) (cpuList b) leaf-listing (cpu-listing well) (λ i l. let n = leaf-names i l in (cpuAt b (cpuOf t i), n .is-cpu, n)) leaves-apart)
         (listing-into {R = λ c i. Names b i c} (cpuList b) (leafList t) (cpu-listing well) leaf-listing cpu-leaf
-        (λ c d i _ _. names-unique typed well handles i c d))
+        (λ c d i _ _. names-unique sized well handles i c d))
 
     pub few-leaves : length (leafList t) ≤ maxCpus
-    few-leaves = rw same-count (rw (phandle-count b) at (few-phandles typed well cpus))
+    few-leaves = rw same-count (rw (phandle-count b) at (few-phandles sized well cpus))

@@ -10,21 +10,21 @@ use Rattle.laws.proofs.SearchLaws.{true-false, below-suc}
 use Rattle.laws.proofs.DecideLaws.{eq-decides, holds-unless}
 use Rattle.laws.proofs.LeastLaws.{Tested, Least, least-one, least-then}
 use Rattle.laws.proofs.LeastStageLaws.{least-told, least-longer, least-lower}
-use Rattle.tables.specs.Board.{Board, Typed, nodeCount}
-use Rattle.wellformed.specs.Order.{stage}
-use Rattle.wellformed.specs.Rules.{WellFormed}
-use Rattle.cpus.specs.Rules.{SoundCpus, SoundPhandles}
+use Rattle.tables.specs.facts.Board.{Board, WordSized, nodeCount}
+use Rattle.wellformed.specs.facts.Order.{stage}
+use Rattle.wellformed.specs.facts.Rules.{WellFormed}
+use Rattle.cpus.specs.facts.Rules.{SoundCpus, SoundPhandles}
 use Rattle.leaves.specs.declared.RecordCheck.{RecordCheck}
-use Rattle.cpumap.specs.Map.{Map, InMap, Leaf}
-use Rattle.topology.specs.Rules.{MapRule}
-use Rattle.topology.specs.Check.{groupFault}
-use Rattle.leaves.specs.Scan.{Tree, treeAt, check, repeatFault, treeFault}
+use Rattle.cpumap.specs.facts.Map.{Map, InMap, Leaf}
+use Rattle.topology.specs.facts.Rules.{MapRule}
+use Rattle.topology.specs.answers.Check.{groupFault}
+use Rattle.leaves.specs.answers.Scan.{Tree, treeAt, check, repeatFault, treeFault}
 use Rattle.cpumap.proofs.NameFacts.{root-nameless}
 use Rattle.cpumap.proofs.MapMeans.{outside-is}
 use Rattle.topology.proofs.RuleCases.{staged, tree-stage}
 use Rattle.topology.proofs.RecordMeans.{record-told}
 use Rattle.topology.proofs.PlaceMeans.{root-told, below-told, map-told, outside-told}
-use Rattle.leaves.proofs.CheckCases.{shapeNumber, strayNumber, leafName, named, Answers, answers-fault, Under, Checked, checked, check-shape, fault-check, check-fault}
+use Rattle.leaves.proofs.CheckCases.{shapeNumber, outsideNumber, leafName, named, Answers, answers-fault, Under, Checked, checked, check-shape, fault-check, check-fault}
 use Rattle.leaves.proofs.LeafMeans.{index-names, names-none}
 use Rattle.leaves.proofs.CheckLeaf.{name-leaf, leaf-name, under-in-map, in-map-under}
 use Rattle.leaves.proofs.LeafRules.{rule-24, rule-25, repeat-tested}
@@ -37,7 +37,7 @@ no-leaf-rule {n = n} none r l h =
     (λ lt. let e : n ≡ 25 = omega arith in none (rule-25 (rw e at r) .2))
     (eq-or-lt-of-le l)
 
-module _ {b : Board} (typed : Typed b) (well : WellFormed b) (sound : SoundCpus b) (handles : SoundPhandles b) {m : ℕ} (is-map : Map b m) where
+module _ {b : Board} (sized : WordSized b) (well : WellFormed b) (sound : SoundCpus b) (handles : SoundPhandles b) {m : ℕ} (is-map : Map b m) where
   abbrev t : Tree
   t = treeAt b m
 
@@ -74,15 +74,15 @@ module _ {b : Board} (typed : Typed b) (well : WellFormed b) (sound : SoundCpus 
           from-18 (least-told (omega arith) (least-then Rule 19 23 24 0 24 (omega arith) (omega arith) (rw z at shapes) (least-one Rule 24 (omega arith) (Tested.broken broken))) (λ q. omega arith))
         where
           broken : MapRule b 24 i
-          broken = MapRule.namesNone i (name-leaf well i in-map f) (names-none typed well handles i le)
+          broken = MapRule.cpuMapPhandle i (name-leaf well i in-map f) (names-none sized well handles i le)
 
       leaf-told : shapeNumber t i ≡ 0 → named t i < length (t .phandles) → check t i .number ≡ 0 → Told (repeatFault t i)
       leaf-told z lt e =
           from-18
           (least-then Rule 19 24 25 0 (repeatFault t i) (omega arith) (omega arith)
           (least-then Rule 19 23 24 0 0 (omega arith) (omega arith) (rw z at shapes)
-          (least-one Rule 24 (omega arith) (Tested.sound (λ r. rule-24 r .1 _ (index-names typed well handles i lt)))))
-          (least-one Rule 25 (omega arith) (repeat-tested typed well handles is-map i checks)))
+          (least-one Rule 24 (omega arith) (Tested.sound (λ r. rule-24 r .1 _ (index-names sized well handles i lt)))))
+          (least-one Rule 25 (omega arith) (repeat-tested sized well handles is-map i checks)))
         where
           checks : (k : ℕ) → k ≤ i → check t k .number ≡ 0
           checks k le = ⊎-elim (λ q. rw q e) (earlier k) (eq-or-lt-of-le le)
@@ -97,7 +97,7 @@ module _ {b : Board} (typed : Typed b) (well : WellFormed b) (sound : SoundCpus 
         go : Checked t i → Told (treeFault t i)
         go (Checked.top e a) = answer 0 a (rw e (root-told b m is-map))
         go (Checked.map n e a) = answer (groupFault (b .nodes) i) a (rw e (map-told b well m is-map))
-        go (Checked.outside n k e a) = answer (strayNumber t i) a (outside-told b well m is-map i (omega arith) lt (outside-is b m is-map i k e))
+        go (Checked.outside n k e a) = answer (outsideNumber t i) a (outside-told b well m is-map i (omega arith) lt (outside-is b m is-map i k e))
         go (Checked.misshapen u n a) = answer (shapeNumber t i) a (from-18 u (least-told (omega arith) (shapes u) n))
         go (Checked.inner u z f a) = answer 0 a (inner-told u z f)
         go (Checked.nameless u z f le a) = answer 24 a (nameless-told u z f le)

@@ -4,22 +4,22 @@ use mathlib.Core.Bool.{cond}
 use Prim.Native.Nat.{ℕ, _≤_, _<_}
 use native.Mathlib.Omega.{arith}
 use Rattle.laws.specs.declared.Fault.{Fault}
-use Rattle.laws.specs.Fault.{orElse, firstFault}
+use Rattle.laws.specs.answers.Fault.{orElse, firstFault}
 use Rattle.laws.proofs.FaultLaws.{place-le}
 use Rattle.laws.proofs.ListedLaws.{first-listed}
 use Rattle.laws.proofs.FirstLaws.{Tells, Stage, stage-tells}
 use Rattle.laws.proofs.RuleStageLaws.{else-place, then-tells}
 use Rattle.laws.proofs.VerdictLaws.{number-stage}
 use Rattle.laws.proofs.LeastStageLaws.{least-stage}
-use Rattle.tables.specs.Board.{Board, Typed, nodeCount}
-use Rattle.wellformed.specs.Order.{stage}
-use Rattle.wellformed.specs.Rules.{WellFormed}
-use Rattle.cpus.specs.Rules.{SoundCpus, SoundPhandles}
-use Rattle.cpus.specs.Check.{isCpu, cpuList}
-use Rattle.cpumap.specs.Map.{Map}
-use Rattle.topology.specs.Rules.{MapRule}
+use Rattle.tables.specs.facts.Board.{Board, WordSized, nodeCount}
+use Rattle.wellformed.specs.facts.Order.{stage}
+use Rattle.wellformed.specs.facts.Rules.{WellFormed}
+use Rattle.cpus.specs.facts.Rules.{SoundCpus, SoundPhandles}
+use Rattle.cpus.specs.answers.Check.{isCpu, cpuList}
+use Rattle.cpumap.specs.facts.Map.{Map}
+use Rattle.topology.specs.facts.Rules.{MapRule}
 use Rattle.topology.proofs.RuleCases.{Staged, staged, tree-place, place-range, tree-stage}
-use Rattle.leaves.specs.Scan.{Tree, treeAt, namedBelow, treeFault, leavesFault}
+use Rattle.leaves.specs.answers.Scan.{Tree, treeAt, namedBelow, treeFault, leavesFault}
 use Rattle.leaves.proofs.LeafRules.{unmappedFault, unmapped-told}
 use Rattle.leaves.proofs.TreeLeast.{sound-checks, tree-least}
 
@@ -39,7 +39,7 @@ module _ (b : Board) (m : ℕ) where
   pub leaves-place : leavesFault (treeAt b m) (cpuList b) .place ≤ nodeCount (b .nodes)
   leaves-place = rw leaf-places (else-place here there (place-le (treeFault (treeAt b m)) (nodeCount (b .nodes))) (λ _. place-le (unmappedFault (treeAt b m)) (nodeCount (b .nodes))))
 
-module _ {b : Board} (typed : Typed b) (well : WellFormed b) (sound : SoundCpus b) (handles : SoundPhandles b) {m : ℕ} (is-map : Map b m) where
+module _ {b : Board} (sized : WordSized b) (well : WellFormed b) (sound : SoundCpus b) (handles : SoundPhandles b) {m : ℕ} (is-map : Map b m) where
   abbrev t : Tree
   t = treeAt b m
 
@@ -51,7 +51,7 @@ module _ {b : Board} (typed : Typed b) (well : WellFormed b) (sound : SoundCpus 
   records-stage =
       least-stage stage (MapRule b) (stage 18) 18 25 (λ n p r e. place-range (tree-place (rw e at (staged r))))
       (λ n p r l h. tree-stage (staged r) l h .0)
-      (λ i lt clean. tree-least typed well sound handles is-map i clean lt)
+      (λ i lt clean. tree-least sized well sound handles is-map i clean lt)
 
   unmapped-broken : {n p : ℕ} → Staged b (stage 26) n p → MapRule b n p → (n ≡ 26) × (p < count) × ((MapRule b 26 p → ⊥) → ⊥)
   unmapped-broken (Staged.unmapped cpu) r = (refl, cpu .child .inside, λ none. none r)
@@ -59,7 +59,7 @@ module _ {b : Board} (typed : Typed b) (well : WellFormed b) (sound : SoundCpus 
   unmapped-stage : ((n p : ℕ) → MapRule b n p → stage n ≡ stage 18 → ⊥) → Stage stage (MapRule b) (stage 26) count (unmappedFault t)
   unmapped-stage none =
       number-stage stage (MapRule b) 26 (omega arith) (λ p. MapRule b 26 p → ⊥) (λ n p r e. unmapped-broken (rw e at (staged r)) r)
-      (λ i _ _. unmapped-told typed well handles is-map (sound-checks typed well sound handles is-map none) i)
+      (λ i _ _. unmapped-told sized well handles is-map (sound-checks sized well sound handles is-map none) i)
 
   -- what the scan of the tree tells
   pub tree-tells : Tells stage (MapRule b) (stage 18) (stage 27) (leavesFault t (cpuList b))

@@ -1,4 +1,3 @@
 -- What the contracts of `leaves` cite.
-pub mod Check
-pub mod Scan
-pub mod Pass
+pub mod answers
+pub mod steps

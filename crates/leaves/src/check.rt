@@ -3,26 +3,26 @@ use crate::RecordCheck;
 use crate::leaf::leaf_check;
 use crate::leaf::leaf_cpu;
 use crate::leaf::no_leaf;
-use keys::KEY_WORDS;
+use property_index::INDEX_WORDS;
 use topology::record_shape;
 ghost use mathlib.Core.Path.{_≡_};
-ghost use Rattle.leaves.specs.Check.{keyCells, recordCheck};
+ghost use Rattle.leaves.specs.answers.Check.{indexedCells, recordCheck};
 
 // What record i breaks of 18 to 24, and the cpu that it names where it is a leaf.
 pub fn record_check(
     nodes: &[u32],
     props: &[u32],
     pool: &[u8],
-    keys: &[u16; KEY_WORDS],
+    index: &[u16; INDEX_WORDS],
     map: usize,
     phandles: &[u64],
     i: usize,
 ) -> RecordCheck
-    ensures { λ r. ⌜ r ≡ recordCheck (now (nodes .entry)) (keyCells (now (props .entry)) (now (pool .entry)) (now (keys .entry))) (now (pool .entry)) map (now (phandles .entry)) i ⌝ }
+    ensures { λ r. ⌜ r ≡ recordCheck (now (nodes .entry)) (indexedCells (now (props .entry)) (now (pool .entry)) (now (index .entry))) (now (pool .entry)) map (now (phandles .entry)) i ⌝ }
 {
     let shape = record_shape(nodes, pool, map, i);
     if shape.leaf {
-        return leaf_check(phandles.len(), leaf_cpu(props, pool, keys, phandles, i));
+        return leaf_check(phandles.len(), leaf_cpu(props, pool, index, phandles, i));
     }
     no_leaf(shape.number, phandles.len())
 }

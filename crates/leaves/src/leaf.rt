@@ -2,20 +2,20 @@
 use crate::RecordCheck;
 use cpus::Value;
 use cpus::cell_in;
-use keys::KEY_WORDS;
-use keys::Key;
-use keys::find_key;
-use laws::BAD_LEAF_CPU;
 use laws::place_in;
+use laws::rules;
+use property_index::INDEX_WORDS;
+use property_index::Key;
+use property_index::find_indexed;
 ghost use mathlib.Core.Path.{_≡_};
-ghost use Rattle.leaves.specs.Check.{indexOf, leafCpu, keyCells, broken, leafCheck};
+ghost use Rattle.leaves.specs.answers.Check.{indexOf, leafCpu, indexedCells, broken, leafCheck};
 
 fn index_of(phandles: &[u64], cell: Value) -> usize
     ensures { λ r. ⌜ r ≡ indexOf (now (phandles .entry)) cell ⌝ }
 {
     match cell {
-        Value::Is(word) => place_in(phandles, word),
-        Value::Not => phandles.len(),
+        Value::Number(word) => place_in(phandles, word),
+        Value::Invalid => phandles.len(),
     }
 }
 
@@ -23,13 +23,16 @@ fn index_of(phandles: &[u64], cell: Value) -> usize
 pub fn leaf_cpu(
     props: &[u32],
     pool: &[u8],
-    keys: &[u16; KEY_WORDS],
+    index: &[u16; INDEX_WORDS],
     phandles: &[u64],
     i: usize,
 ) -> usize
-    ensures { λ r. ⌜ r ≡ leafCpu (keyCells (now (props .entry)) (now (pool .entry)) (now (keys .entry))) (now (phandles .entry)) i ⌝ }
+    ensures { λ r. ⌜ r ≡ leafCpu (indexedCells (now (props .entry)) (now (pool .entry)) (now (index .entry))) (now (phandles .entry)) i ⌝ }
 {
-    index_of(phandles, cell_in(props, pool, find_key(keys, i, Key::Cpu)))
+    index_of(
+        phandles,
+        cell_in(props, pool, find_indexed(index, i, Key::Cpu)),
+    )
 }
 
 // No leaf: the number that a record breaks, or 0.
@@ -54,5 +57,5 @@ pub fn leaf_check(none: usize, k: usize) -> RecordCheck
             cpu: k,
         };
     }
-    no_leaf(BAD_LEAF_CPU, none)
+    no_leaf(rules::CPU_MAP_PHANDLE, none)
 }

@@ -1,7 +1,7 @@
 // The leaves of the map and the cpu records that they name: rules 18 to 26 over all records.
 mod check;
-mod gather;
 mod leaf;
+mod pass;
 mod scan;
 
 pub use scan::read_tree;

@@ -1,32 +1,32 @@
 // The leaves of the map: rules 18 to 26.
 use crate::TreeScan;
-use crate::gather::gather;
-use crate::gather::is_marked;
-use crate::gather::refuse;
-use cpus::MAX_CPUS;
-use keys::KEY_WORDS;
+use crate::pass::is_marked;
+use crate::pass::refuse;
+use crate::pass::scan_records;
 use laws::Fault;
-use laws::UNMAPPED_CPU;
 use laws::at_most;
-use wellformed::MAX_NODES;
+use laws::limits::MAX_CPUS;
+use laws::limits::MAX_NODES;
+use laws::rules;
+use property_index::INDEX_WORDS;
 ghost use mathlib.Core.Path.{_≡_};
 ghost use lib.ListN.{length};
-ghost use Rattle.laws.specs.Fault.{firstFault};
-ghost use Rattle.laws.specs.Listed.{toldOf};
-ghost use Rattle.leaves.specs.Scan.{lentTree, treeScan, leavesOver, namedOver};
-ghost use Rattle.leaves.specs.Pass.{unmarkedFault};
+ghost use Rattle.laws.specs.answers.Fault.{firstFault};
+ghost use Rattle.laws.specs.answers.Listed.{faultOfMember};
+ghost use Rattle.leaves.specs.answers.Scan.{lentTree, treeScan, leavesOver, namedOver};
+ghost use Rattle.leaves.specs.steps.Pass.{unmarkedFault};
 
 // The first of a list of cpu records that breaks rule 26: its index in the list is not marked.
 fn first_unmapped(records: &[u16], marks: &[u8]) -> Fault
     ensures { λ r.
         let list = now (records .entry) in
-        ⌜ r ≡ toldOf list (firstFault (unmarkedFault (now (marks .entry))) (length list)) ⌝ }
+        ⌜ r ≡ faultOfMember list (firstFault (unmarkedFault (now (marks .entry))) (length list)) ⌝ }
 {
     let mut k: usize = 0;
     while k < records.len() {
         if !is_marked(marks, k) {
             return Fault {
-                number: UNMAPPED_CPU,
+                number: rules::CPU_UNMAPPED,
                 place: records[k] as usize,
             };
         }
@@ -44,7 +44,7 @@ pub fn read_tree(
     nodes: &[u32],
     props: &[u32],
     pool: &[u8],
-    keys: &[u16; KEY_WORDS],
+    index: &[u16; INDEX_WORDS],
     map: usize,
     cpu_records: &[u16],
     phandles: &[u64],
@@ -52,23 +52,23 @@ pub fn read_tree(
     named: &mut [u16; MAX_CPUS],
 ) -> TreeScan
     ensures answer { λ r.
-        let t = lentTree (now (nodes .entry)) (now (props .entry)) (now (pool .entry)) (now (keys .entry)) map (now (phandles .entry)) in
+        let t = lentTree (now (nodes .entry)) (now (props .entry)) (now (pool .entry)) (now (index .entry)) map (now (phandles .entry)) in
         ⌜ r ≡ treeScan t (now («cpu_records» .entry)) ⌝ }
     ensures leaves { λ _.
-        let t = lentTree (now (nodes .entry)) (now (props .entry)) (now (pool .entry)) (now (keys .entry)) map (now (phandles .entry)) in
+        let t = lentTree (now (nodes .entry)) (now (props .entry)) (now (pool .entry)) (now (index .entry)) map (now (phandles .entry)) in
         ⌜ now (leaves .exit) ≡ leavesOver t (now (leaves .entry)) ⌝ }
     ensures named { λ _.
-        let t = lentTree (now (nodes .entry)) (now (props .entry)) (now (pool .entry)) (now (keys .entry)) map (now (phandles .entry)) in
+        let t = lentTree (now (nodes .entry)) (now (props .entry)) (now (pool .entry)) (now (index .entry)) map (now (phandles .entry)) in
         ⌜ now (named .exit) ≡ namedOver t (now (named .entry)) ⌝ }
 {
     let words = at_most(nodes.len(), 3 * MAX_NODES);
     let known = at_most(phandles.len(), MAX_CPUS);
     let mut marks = [0u8; MAX_CPUS];
-    let scan = gather(
+    let scan = scan_records(
         &nodes[..words],
         props,
         pool,
-        keys,
+        index,
         map,
         &phandles[..known],
         &mut marks,

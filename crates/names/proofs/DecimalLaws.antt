@@ -11,19 +11,19 @@ use lib.ListN.{length, getD, length-append, List·getD-append}
 use borrow.Author.Tests.{ltb-false, eqb-false, lt-ltb, le-ltb, ne-eqb}
 use Rattle.laws.proofs.SearchLaws.{lt-or-le}
 use Rattle.names.specs.declared.Number.{Number}
-use Rattle.names.specs.declared.Number.the-variants.{Is, Not}
-use Rattle.names.specs.Kind.{decimalIn, decimal}
-use Rattle.names.specs.Name.{digitsFrom, numberOf}
+use Rattle.names.specs.declared.Number.the-variants.{Decimal, NotDecimal}
+use Rattle.names.specs.facts.Kind.{decimalIn, decimal}
+use Rattle.names.specs.answers.Name.{digitsFrom, numberOf}
 
 -- no number is not a number
-pub not-is : {A : Type 0} {n : ℕ} → Not ≡ Is n → A
+pub not-is : {A : Type 0} {n : ℕ} → NotDecimal ≡ Decimal n → A
 not-is {A} {n} h = let z : _≡_ {A = ℕ} 0 1 = cc in absurd (omega arith)
 
 -- a byte that is read as a digit, and what is read after it
-digit-in : (d n : ℕ) (x : Number) → cond (ltb d 48) Not (cond (ltb 57 d) Not x) ≡ Is n → (48 ≤ d) × (d ≤ 57) × (x ≡ Is n)
+digit-in : (d n : ℕ) (x : Number) → cond (ltb d 48) NotDecimal (cond (ltb 57 d) NotDecimal x) ≡ Decimal n → (48 ≤ d) × (d ≤ 57) × (x ≡ Decimal n)
 digit-in d n x h = go (ltb d 48) refl (ltb 57 d) refl h
   where
-    go : (a : Bool) → ltb d 48 ≡ a → (b : Bool) → ltb 57 d ≡ b → cond a Not (cond b Not x) ≡ Is n → (48 ≤ d) × (d ≤ 57) × (x ≡ Is n)
+    go : (a : Bool) → ltb d 48 ≡ a → (b : Bool) → ltb 57 d ≡ b → cond a NotDecimal (cond b NotDecimal x) ≡ Decimal n → (48 ≤ d) × (d ≤ 57) × (x ≡ Decimal n)
     go true p b q g = not-is g
     go false p true q g = not-is g
     go false p false q g = (ltb-false d 48 p, ltb-false 57 d q, g)
@@ -75,23 +75,23 @@ number-digits : (ds : List ℕ) → 0 < length ds → length ds ≤ 4 → (getD 
 unfolding numberOf
 number-digits ds some few first = rw (ne-eqb (length ds) 0 (omega arith), le-ltb 4 (length ds) few, ne-eqb (getD ds 0 0) 48 first) (same (ltb 1 (length ds)))
   where
-    same : (b : Bool) → cond (cond b false false) Not (digitsFrom 0 ds) ≡ digitsFrom 0 ds
+    same : (b : Bool) → cond (cond b false false) NotDecimal (digitsFrom 0 ds) ≡ digitsFrom 0 ds
     same true = refl
     same false = refl
 
-number-positive : (n : ℕ) → 0 < n → n < 10000 → numberOf (decimal n) ≡ Is n
+number-positive : (n : ℕ) → 0 < n → n < 10000 → numberOf (decimal n) ≡ Decimal n
 unfolding digitsFrom
 number-positive n p h =
     let s = decimal-shape 3 n h in
     number-digits (decimal n) (s .0) (s .1) (s .2 p) ∙ ap (digitsFrom 0) (sym (append-nil (decimal n))) ∙ decimal-read 3 n h []
 
-pub number-decimal : (n : ℕ) → n < 10000 → numberOf (decimal n) ≡ Is n
+pub number-decimal : (n : ℕ) → n < 10000 → numberOf (decimal n) ≡ Decimal n
 unfolding numberOf decimalIn digitsFrom
 number-decimal zero h = refl
 number-decimal (suc n) h = number-positive (suc n) (omega arith) h
 
 -- the tests that digits pass
-number-tests : (ds : List ℕ) (n : ℕ) → numberOf ds ≡ Is n → (length ds ≤ 4) × (1 < length ds → getD ds 0 0 ≡ 48 → ⊥) × (digitsFrom 0 ds ≡ Is n)
+number-tests : (ds : List ℕ) (n : ℕ) → numberOf ds ≡ Decimal n → (length ds ≤ 4) × (1 < length ds → getD ds 0 0 ≡ 48 → ⊥) × (digitsFrom 0 ds ≡ Decimal n)
 unfolding numberOf
 number-tests ds n h = go (eqb (length ds) 0) (ltb 4 (length ds)) refl (ltb 1 (length ds)) refl (eqb (getD ds 0 0) 48) refl h
   where
@@ -102,8 +102,8 @@ number-tests ds n h = go (eqb (length ds) 0) (ltb 4 (length ds)) refl (ltb 1 (le
         ltb 1 (length ds) ≡ c →
         (d : Bool) →
         eqb (getD ds 0 0) 48 ≡ d →
-        cond a Not (cond b Not (cond (cond c d false) Not (digitsFrom 0 ds))) ≡ Is n →
-        (length ds ≤ 4) × (1 < length ds → getD ds 0 0 ≡ 48 → ⊥) × (digitsFrom 0 ds ≡ Is n)
+        cond a NotDecimal (cond b NotDecimal (cond (cond c d false) NotDecimal (digitsFrom 0 ds))) ≡ Decimal n →
+        (length ds ≤ 4) × (1 < length ds → getD ds 0 0 ≡ 48 → ⊥) × (digitsFrom 0 ds ≡ Decimal n)
     go true b p c q d r g = not-is g
     go false true p c q d r g = not-is g
     go false false p true q true r g = not-is g
@@ -116,7 +116,7 @@ digits-written :
     k + length ds ≡ m →
     (0 < length ds → 0 < v) →
     v < 10 ^ k →
-    digitsFrom v ds ≡ Is n →
+    digitsFrom v ds ≡ Decimal n →
     (n < 10 ^ m) × (decimalIn m n ≡ decimalIn k v ++ ds)
 unfolding digitsFrom
 digits-written [] k m v n s p q h =
@@ -131,7 +131,7 @@ digits-written (d ∷ ds) k m v n s p q h =
     let r = digits-written ds (suc k) m (v * 10 + (d - 48)) n (omega arith) (λ _. omega arith) (omega (arith, pow-suc 10 k, t .1)) (t .2) in
     (r .0, r .1 ∙ rw (decimal-more k (v * 10 + (d - 48)) (omega arith), tenth, last) (append-assoc (decimalIn k v) (d ∷ []) ds))
 
-pub decimal-number : (ds : List ℕ) (n : ℕ) → numberOf ds ≡ Is n → (n < 10000) × (ds ≡ decimal n)
+pub decimal-number : (ds : List ℕ) (n : ℕ) → numberOf ds ≡ Decimal n → (n < 10000) × (ds ≡ decimal n)
 unfolding numberOf digitsFrom
 decimal-number [] n h = not-is h
 decimal-number (d ∷ ds) n h =

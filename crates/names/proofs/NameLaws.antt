@@ -8,15 +8,16 @@ use native.Mathlib.Numerals.{add-one}
 use lib.Dec.{eqb, ltb}
 use lib.ListN.{length, drop, getD, drop-of-length-le}
 use lib.Seq.{drop-cons, drop-length}
-use Rattle.names.specs.declared.Number.the-variants.{Is, Not}
-use Rattle.names.specs.Name.{startsWith, digitsFrom, numberOf, numberAfter}
+use Rattle.names.specs.declared.Number.the-variants.{Decimal, NotDecimal}
+use Rattle.names.specs.answers.Name.{startsWith, digitsFrom, numberOf}
+use Rattle.names.specs.steps.Name.{numberAfter}
 
 -- a name no longer than the word has no number after it
-pub after-short : (word name : List ℕ) → length name ≤ length word → Not ≡ numberAfter word name
+pub after-short : (word name : List ℕ) → length name ≤ length word → NotDecimal ≡ numberAfter word name
 unfolding numberAfter numberOf
 after-short word name h = rw (drop-of-length-le name h) (same (startsWith word name))
   where
-    same : (b : Bool) → Not ≡ cond b Not Not
+    same : (b : Bool) → NotDecimal ≡ cond b NotDecimal NotDecimal
     same true = refl
     same false = refl
 
@@ -37,11 +38,11 @@ starts-end word name i e = rw (e, drop-length word)
 pub digits-step :
     (ds : List ℕ) (v i : ℕ) →
     i < length ds →
-    digitsFrom v (drop i ds) ≡ cond (ltb (getD ds i 0) 48) Not (cond (ltb 57 (getD ds i 0)) Not (digitsFrom (v * 10 + (getD ds i 0 - 48)) (drop (i + 1) ds)))
+    digitsFrom v (drop i ds) ≡ cond (ltb (getD ds i 0) 48) NotDecimal (cond (ltb 57 (getD ds i 0)) NotDecimal (digitsFrom (v * 10 + (getD ds i 0 - 48)) (drop (i + 1) ds)))
 unfolding digitsFrom
 digits-step ds v i h = rw (add-one, drop-cons ds i 0 h)
 
-pub digits-end : (ds : List ℕ) (v i : ℕ) → i ≡ length ds → digitsFrom v (drop i ds) ≡ Is v
+pub digits-end : (ds : List ℕ) (v i : ℕ) → i ≡ length ds → digitsFrom v (drop i ds) ≡ Decimal v
 unfolding digitsFrom
 digits-end ds v i e = rw (e, drop-length ds)
 

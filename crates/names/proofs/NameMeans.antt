@@ -6,9 +6,10 @@ use Prim.Native.Nat.{ℕ}
 use Rattle.names.specs.declared.TopologyName.{TopologyName}
 use Rattle.names.specs.declared.TopologyName.the-variants.{Socket, Cluster, Core, Thread, Other}
 use Rattle.names.specs.declared.Number.{Number}
-use Rattle.names.specs.declared.Number.the-variants.{Is, Not}
-use Rattle.names.specs.Kind.{Kind, word, Named}
-use Rattle.names.specs.Name.{answered, numberAfter, withNumber, nameOf}
+use Rattle.names.specs.declared.Number.the-variants.{Decimal, NotDecimal}
+use Rattle.names.specs.facts.Kind.{Kind, word, Named}
+use Rattle.names.specs.answers.Name.{namedAs, withNumber, nameOf}
+use Rattle.names.specs.steps.Name.{numberAfter}
 use Rattle.names.proofs.DecimalLaws.{not-is}
 use Rattle.names.proofs.WordLaws.{kindOf, name-is}
 use Rattle.names.proofs.AfterLaws.{after-named, named-name}
@@ -22,29 +23,29 @@ kindIn (Thread n) = Kind.thread
 kindIn Other = Kind.socket
 
 abbrev numberIn : TopologyName → Number
-numberIn (Socket n) = Is n
-numberIn (Cluster n) = Is n
-numberIn (Core n) = Is n
-numberIn (Thread n) = Is n
-numberIn Other = Not
+numberIn (Socket n) = Decimal n
+numberIn (Cluster n) = Decimal n
+numberIn (Core n) = Decimal n
+numberIn (Thread n) = Decimal n
+numberIn Other = NotDecimal
 
-answered-in : (kind : Kind) (n : ℕ) → (kindIn (answered kind n) ≡ kind) × (numberIn (answered kind n) ≡ Is n)
+answered-in : (kind : Kind) (n : ℕ) → (kindIn (namedAs kind n) ≡ kind) × (numberIn (namedAs kind n) ≡ Decimal n)
 answered-in Kind.socket n = (refl, refl)
 answered-in Kind.cluster n = (refl, refl)
 answered-in Kind.core n = (refl, refl)
 answered-in Kind.thread n = (refl, refl)
 
-pub answered-same : (k j : Kind) (n m : ℕ) → answered k n ≡ answered j m → (k ≡ j) × (n ≡ m)
+pub answered-same : (k j : Kind) (n m : ℕ) → namedAs k n ≡ namedAs j m → (k ≡ j) × (n ≡ m)
 answered-same k j n m h =
-    let e : Is n ≡ Is m = sym (answered-in k n .1) ∙ ap numberIn h ∙ answered-in j m .1 in
+    let e : Decimal n ≡ Decimal m = sym (answered-in k n .1) ∙ ap numberIn h ∙ answered-in j m .1 in
     (sym (answered-in k n .0) ∙ ap kindIn h ∙ answered-in j m .0, cc)
 
-pub answered-other : (kind : Kind) (n : ℕ) → answered kind n ≡ Other → ⊥
+pub answered-other : (kind : Kind) (n : ℕ) → namedAs kind n ≡ Other → ⊥
 answered-other kind n h = not-is (sym (ap numberIn h) ∙ answered-in kind n .1)
 
 -- Other, or a kind and a number that the name gives
 abbrev Reads : List ℕ → Type 0
-Reads name = (nameOf name ≡ Other) ⊎ ((kind : Kind) × (n : ℕ) × (nameOf name ≡ answered kind n) × Named name kind n)
+Reads name = (nameOf name ≡ Other) ⊎ ((kind : Kind) × (n : ℕ) × (nameOf name ≡ namedAs kind n) × Named name kind n)
 
 reads : (name : List ℕ) → Reads name
 reads name = go (numberAfter (word (kindOf name)) name) refl
@@ -53,18 +54,18 @@ reads name = go (numberAfter (word (kindOf name)) name) refl
     answer = name-is name (kindOf name) refl
 
     go : (x : Number) → numberAfter (word (kindOf name)) name ≡ x → Reads name
-    go (Is n) e = inr (kindOf name, n, answer ∙ ap (withNumber (kindOf name)) e, after-named name (kindOf name) n e)
-    go Not e = inl (answer ∙ ap (withNumber (kindOf name)) e)
+    go (Decimal n) e = inr (kindOf name, n, answer ∙ ap (withNumber (kindOf name)) e, after-named name (kindOf name) n e)
+    go NotDecimal e = inl (answer ∙ ap (withNumber (kindOf name)) e)
 
-name-named : (name : List ℕ) (kind : Kind) (n : ℕ) → nameOf name ≡ answered kind n → Named name kind n
+name-named : (name : List ℕ) (kind : Kind) (n : ℕ) → nameOf name ≡ namedAs kind n → Named name kind n
 name-named name kind n h = ⊎-elim (λ o. absurd (answered-other kind n (sym h ∙ o))) found (reads name)
   where
-    found : (j : Kind) × (m : ℕ) × (nameOf name ≡ answered j m) × Named name j m → Named name kind n
+    found : (j : Kind) × (m : ℕ) × (nameOf name ≡ namedAs j m) × Named name j m → Named name kind n
     found t = let s = answered-same (t .0) kind (t .1) n (sym (t .2) ∙ h) in rw (s .0, s .1) at (t .3)
 
 pub name-means :
     (name : List ℕ) (kind : Kind) (n : ℕ) →
-    (nameOf name ≡ answered kind n → Named name kind n) × (Named name kind n → nameOf name ≡ answered kind n)
+    (nameOf name ≡ namedAs kind n → Named name kind n) × (Named name kind n → nameOf name ≡ namedAs kind n)
 name-means name kind n = (name-named name kind n, named-name)
 
 pub other-means :

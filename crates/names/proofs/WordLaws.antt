@@ -8,8 +8,9 @@ use lib.ListN.{length, drop, getD}
 use borrow.Author.Tests.{eqb-true, eq-eqb}
 use Rattle.laws.proofs.SearchLaws.{true-false}
 use Rattle.names.specs.declared.TopologyName.{TopologyName}
-use Rattle.names.specs.Kind.{Kind, word}
-use Rattle.names.specs.Name.{startsWith, withNumber, numberAfter, afterWord, nameOf}
+use Rattle.names.specs.facts.Kind.{Kind, word}
+use Rattle.names.specs.answers.Name.{startsWith, withNumber, afterWord, nameOf}
+use Rattle.names.specs.steps.Name.{numberAfter}
 
 -- a name that begins with a word is the word and what follows it
 pub starts-rest : (w name : List ℕ) → startsWith w name ≡ true → name ≡ w ++ drop (length w) name

@@ -1,3 +1,4 @@
 -- What the contracts of `names` cite.
-pub mod Kind
-pub mod Name
+pub mod facts
+pub mod answers
+pub mod steps

@@ -2,7 +2,8 @@
 ghost use mathlib.Core.Path.{_≡_};
 ghost use Prim.Native.Nat.{_≤_};
 ghost use lib.ListN.{length};
-ghost use Rattle.names.specs.Name.{startsWith, numberOf, numberAfter, nameOf};
+ghost use Rattle.names.specs.answers.Name.{startsWith, numberOf, nameOf};
+ghost use Rattle.names.specs.steps.Name.{numberAfter};
 
 pub enum TopologyName {
     Socket(u32),
@@ -14,8 +15,8 @@ pub enum TopologyName {
 
 // One to four decimal digits, or not.
 enum Number {
-    Is(u32),
-    Not,
+    Decimal(u32),
+    NotDecimal,
 }
 
 // Whether a name begins with a word that is no longer than it.
@@ -39,14 +40,14 @@ fn number_of(digits: &[u8]) -> Number
 {
     let n = digits.len();
     if n == 0 {
-        return Number::Not;
+        return Number::NotDecimal;
     }
     if 4 < n {
-        return Number::Not;
+        return Number::NotDecimal;
     }
     if 1 < n {
         if digits[0] == 48 {
-            return Number::Not;
+            return Number::NotDecimal;
         }
     }
     let mut value: u32 = 0;
@@ -54,15 +55,15 @@ fn number_of(digits: &[u8]) -> Number
     while i < digits.len() {
         let d = digits[i];
         if d < 48 {
-            return Number::Not;
+            return Number::NotDecimal;
         }
         if 57 < d {
-            return Number::Not;
+            return Number::NotDecimal;
         }
         value = value * 10 + (d - 48) as u32;
         i += 1;
     }
-    Number::Is(value)
+    Number::Decimal(value)
 }
 
 // The number that follows a word, where the name begins with it.
@@ -70,28 +71,28 @@ fn number_after(name: &[u8], word: &[u8]) -> Number
     ensures { λ r. ⌜ r ≡ numberAfter (now (word .entry)) (now (name .entry)) ⌝ }
 {
     if name.len() <= word.len() {
-        return Number::Not;
+        return Number::NotDecimal;
     }
     if starts_with(name, word) {
         return number_of(&name[word.len()..]);
     }
-    Number::Not
+    Number::NotDecimal
 }
 
 // What a name says. No two of the words begin the same name.
 pub fn name_of(name: &[u8]) -> TopologyName
     ensures { λ r. ⌜ r ≡ nameOf (now (name .entry)) ⌝ }
 {
-    if let Number::Is(n) = number_after(name, b"socket") {
+    if let Number::Decimal(n) = number_after(name, b"socket") {
         return TopologyName::Socket(n);
     }
-    if let Number::Is(n) = number_after(name, b"cluster") {
+    if let Number::Decimal(n) = number_after(name, b"cluster") {
         return TopologyName::Cluster(n);
     }
-    if let Number::Is(n) = number_after(name, b"core") {
+    if let Number::Decimal(n) = number_after(name, b"core") {
         return TopologyName::Core(n);
     }
-    if let Number::Is(n) = number_after(name, b"thread") {
+    if let Number::Decimal(n) = number_after(name, b"thread") {
         return TopologyName::Thread(n);
     }
     TopologyName::Other

@@ -8,8 +8,9 @@ use lib.Dec.{eqb}
 use lib.ListN.{length, getD}
 use borrow.Author.Tests.{eqb-true, eqb-false}
 use Rattle.laws.proofs.TestLaws.{both-true}
-use Rattle.tables.specs.Board.{rangeIs, propNode, keyOffset, keyLength}
-use Rattle.tables.specs.Property.{isProperty}
+use Rattle.tables.specs.answers.Range.{rangeIs}
+use Rattle.tables.specs.facts.Board.{propNode, keyOffset, keyLength}
+use Rattle.tables.specs.answers.Lookup.{isProperty}
 use Rattle.tables.proofs.CodePool.{other-length}
 
 module _ (props pool : List ℕ) (node : ℕ) (key : List ℕ) where

@@ -6,11 +6,11 @@ use Prim.Native.Nat.{ℕ, zero, suc, _+_, _-_, _*_}
 use native.Mathlib.Omega.{arith}
 use lib.Dec.{eqb}
 use lib.ListN.{getD}
-use Rattle.records.specs.Limits.{noParent}
-use Rattle.tables.specs.Board.{parentWord}
-use Rattle.tables.specs.Tree.{isBelow}
+use Rattle.laws.specs.facts.Limits.{noParent}
+use Rattle.tables.specs.facts.Board.{parentWord}
+use Rattle.tables.specs.answers.Tree.{isBelow}
 use Rattle.tables.proofs.CodePool.{word-zero}
-use Rattle.records.specs.Check.{soundParent}
+use Rattle.records.specs.answers.Check.{soundParent}
 
 module _ (nodes : List ℕ) where
   -- the depth-first rule of the first record and of a later one, whose parent word is w

@@ -7,16 +7,17 @@ use native.Mathlib.Omega.{arith}
 use lib.Dec.{ltb, leb, eqb}
 use lib.ListN.{length}
 use borrow.Author.Tests.{le-leb, leb-true}
-use Rattle.laws.specs.Fault.{clear, firstFault}
-use Rattle.laws.specs.Same.{sameList}
-use Rattle.laws.specs.Search.{anyBelow}
+use Rattle.laws.specs.answers.Fault.{clear, firstFault}
+use Rattle.laws.specs.answers.Same.{sameList}
+use Rattle.laws.specs.answers.Search.{anyBelow}
 use Rattle.laws.proofs.FaultLaws.{below-clear}
 use Rattle.laws.proofs.SearchLaws.{true-false, any-at}
 use Rattle.laws.proofs.TestLaws.{both-true}
-use Rattle.records.specs.Limits.{maxPropertyName}
-use Rattle.tables.specs.Board.{range, rangeIs, propNode, keyOffset, keyLength, valueOffset, valueLength}
-use Rattle.tables.specs.Property.{isProperty}
-use Rattle.records.specs.Check.{soundName, soundWords, soundProperty, sameProperty, propertyFault}
+use Rattle.laws.specs.facts.Limits.{maxPropertyName}
+use Rattle.tables.specs.facts.Board.{range, propNode, keyOffset, keyLength, valueOffset, valueLength}
+use Rattle.tables.specs.answers.Range.{rangeIs}
+use Rattle.tables.specs.answers.Lookup.{isProperty}
+use Rattle.records.specs.answers.Check.{soundName, soundWords, soundProperty, sameProperty, propertyFault}
 
 -- a test after two that fail
 third : (a b c : Bool) → cond a false (cond b false c) ≡ true → c ≡ true

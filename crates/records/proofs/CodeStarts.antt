@@ -9,12 +9,12 @@ use lib.Dec.{eqb}
 use lib.ListN.{length, getD, set}
 use lib.Seq.{getD-set-same, getD-set-other}
 use borrow.Author.Tests.{eqb-true, eqb-false}
-use Rattle.laws.specs.Search.{anyBelow}
+use Rattle.laws.specs.answers.Search.{anyBelow}
 use Rattle.laws.proofs.SearchLaws.{any-place, lt-or-le}
 use Rattle.laws.proofs.TestLaws.{both-true, false-unless}
-use Rattle.tables.specs.Board.{propNode}
-use Rattle.records.specs.Check.{sameProperty}
-use Rattle.records.specs.Starts.{placeOf}
+use Rattle.tables.specs.facts.Board.{propNode}
+use Rattle.records.specs.answers.Check.{sameProperty}
+use Rattle.records.specs.steps.Starts.{placeOf}
 
 -- the property noted at a node's place
 abbrev noted : List ℕ → ℕ → ℕ

@@ -1,4 +1,3 @@
 -- What the contracts of `records` cite.
-pub mod Limits
-pub mod Check
-pub mod Starts
+pub mod answers
+pub mod steps

@@ -1,5 +1,4 @@
 // Each node record and each property: rules 5 to 8.
-mod limits;
 mod name;
 mod nodes;
 mod properties;

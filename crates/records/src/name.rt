@@ -1,7 +1,7 @@
 // Names of nodes and of properties: their length, and that they lie inside the pool.
 use tables::is_inside;
 ghost use mathlib.Core.Path.{_≡_};
-ghost use Rattle.records.specs.Check.{soundName};
+ghost use Rattle.records.specs.answers.Check.{soundName};
 
 // Whether a name has 1 to `most` bytes and lies inside a pool of so many bytes.
 pub fn sound_name(bytes: usize, most: usize, offset: usize, len: usize) -> bool

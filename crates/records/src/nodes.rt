@@ -1,16 +1,15 @@
 // Rules 5 and 6: each node record.
-use crate::limits::MAX_NODE_NAME;
-use crate::limits::NO_PARENT;
 use crate::name::sound_name;
-use laws::BAD_NODE_NAME;
-use laws::BAD_PARENT;
 use laws::Fault;
+use laws::limits::MAX_NODE_NAME;
+use laws::limits::NO_PARENT;
+use laws::rules;
 use tables::is_below;
 use tables::node_word;
 ghost use mathlib.Core.Path.{_≡_};
-ghost use Rattle.laws.specs.Fault.{firstFault};
-ghost use Rattle.tables.specs.Board.{nodeCount};
-ghost use Rattle.records.specs.Check.{soundParent, nodeFault};
+ghost use Rattle.laws.specs.answers.Fault.{firstFault};
+ghost use Rattle.tables.specs.facts.Board.{nodeCount};
+ghost use Rattle.records.specs.answers.Check.{soundParent, nodeFault};
 
 // Whether the parent of record i is the record before it or an ancestor of that one; record 0 has none.
 fn sound_parent(nodes: &[u32], i: usize) -> bool
@@ -36,10 +35,10 @@ fn node_fault(nodes: &[u32], bytes: usize, i: usize) -> u32
     let named = sound_name(bytes, MAX_NODE_NAME, offset, len);
     let placed = sound_parent(nodes, i);
     if !named {
-        return BAD_NODE_NAME;
+        return rules::NODE_NAME_RANGE;
     }
     if !placed {
-        return BAD_PARENT;
+        return rules::NODE_PARENT_ORDER;
     }
     0
 }

@@ -1,12 +1,11 @@
 // Rules 7 and 8: each property.
-use crate::limits::MAX_PROPERTY_NAME;
 use crate::name::sound_name;
 use crate::starts::NO_START;
 use crate::starts::PLACES;
 use crate::starts::start_of;
-use laws::BAD_PROPERTY;
 use laws::Fault;
-use laws::REPEATED_PROPERTY;
+use laws::limits::MAX_PROPERTY_NAME;
+use laws::rules;
 use tables::is_inside;
 use tables::range_is;
 use tables::wide;
@@ -15,9 +14,9 @@ ghost use mathlib.Core.Bool.{false, cond};
 ghost use Prim.Native.Nat.{_+_, _/_, _%_, _≤_};
 ghost use lib.Dec.{eqb};
 ghost use lib.ListN.{length};
-ghost use Rattle.laws.specs.Fault.{firstFault};
-ghost use Rattle.tables.specs.Board.{propCount, propNode, keyLength};
-ghost use Rattle.records.specs.Check.{soundWords, propertyFault};
+ghost use Rattle.laws.specs.answers.Fault.{firstFault};
+ghost use Rattle.tables.specs.facts.Board.{propCount, propNode, keyLength};
+ghost use Rattle.records.specs.answers.Check.{soundWords, propertyFault};
 
 // Whether a property's words keep rule 7 on a board of `count` node records and a pool of so many bytes.
 fn sound_property(
@@ -68,7 +67,7 @@ pub fn first_property_fault(count: usize, props: &[u32], pool: &[u8]) -> Fault
         let value = wide(props[own + 3]);
         let size = wide(props[own + 4]);
         if !sound_property(count, pool.len(), node, start, len, value, size) {
-            let number = BAD_PROPERTY;
+            let number = rules::PROPERTY_RANGE;
             return Fault { number, place: k };
         }
         let end = start + len;
@@ -88,6 +87,6 @@ pub fn first_property_fault(count: usize, props: &[u32], pool: &[u8]) -> Fault
         let number = 0;
         return Fault { number, place: 0 };
     }
-    let number = REPEATED_PROPERTY;
+    let number = rules::DUPLICATE_PROPERTY;
     Fault { number, place: k }
 }

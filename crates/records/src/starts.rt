@@ -2,7 +2,7 @@
 ghost use mathlib.Core.Path.{_≡_};
 ghost use Prim.Native.Nat.{min};
 ghost use lib.ListN.{length, getD, set};
-ghost use Rattle.records.specs.Starts.{placeOf};
+ghost use Rattle.records.specs.steps.Starts.{placeOf};
 
 // How many places there are.
 pub const PLACES: usize = 1024;

@@ -2,32 +2,33 @@
 use mathlib.Core.Path.{_≡_, refl, ap}
 use Prim.Native.Nat.{ℕ, _/_, _%_, _^_, _<_}
 use native.Mathlib.Omega.{arith}
-use Rattle.layout.specs.Row.{rowWords, rowAt}
+use Rattle.layout.specs.answers.Words.{rowWords}
+use Rattle.layout.specs.facts.Row.{rowAt}
 use Rattle.layout.proofs.RowLaws.{row-path}
-use Rattle.affinity.specs.Hash.{hashOf, slotIn}
-use Rattle.tables.specs.Board.{Board, Typed, nodeCount}
-use Rattle.wellformed.specs.Rules.{WellFormed}
+use Rattle.affinity.specs.answers.Hash.{hashOf, slotIn}
+use Rattle.tables.specs.facts.Board.{Board, WordSized, nodeCount}
+use Rattle.wellformed.specs.facts.Rules.{WellFormed}
 use Rattle.wellformed.proofs.WellFormedLaws.{wf-nodes}
-use Rattle.cpus.specs.Node.{Reg, mpidr}
-use Rattle.cpus.specs.Rules.{SoundCpus}
-use Rattle.cpus.specs.Check.{mpidrAt, mpidrList}
+use Rattle.cpus.specs.facts.Node.{Reg, mpidr}
+use Rattle.cpus.specs.facts.Rules.{SoundCpus}
+use Rattle.cpus.specs.answers.Check.{mpidrAt, mpidrList}
 use Rattle.cpus.proofs.PairMeans.{mpidr-parts}
 use Rattle.cpus.proofs.RegMeans.{reg-bounds}
 use Rattle.cpus.proofs.CpuGives.{cpu-reg}
-use Rattle.cpumap.specs.Map.{Map, Leaf, Names}
-use Rattle.topology.specs.Rules.{MapRule}
-use Rattle.leaves.specs.Scan.{leavesOf}
+use Rattle.cpumap.specs.facts.Map.{Map, Leaf, Names}
+use Rattle.topology.specs.facts.Rules.{MapRule}
+use Rattle.leaves.specs.answers.Scan.{leavesOf}
 use Rattle.cpumap.proofs.MapMeans.{leaf-in-map, in-map-inside}
-use Rattle.rows.specs.Row.{rowOf}
-use Rattle.rows.specs.Write.{rowsBelow, sourceOf}
-use Rattle.rows.specs.Fits.{RowFits, Fits}
+use Rattle.rows.specs.answers.Leaf.{rowOf}
+use Rattle.rows.specs.answers.Write.{rowsBelow, sourceOf}
+use Rattle.rows.specs.facts.Fits.{RowFits, Fits}
 use Rattle.rows.proofs.WordMeans.{socket-word, cluster-word, core-word, thread-word}
 use Rattle.rows.proofs.RowLaws.{rows-length, row-at}
 use Rattle.rows.proofs.SourceMeans.{leafCount, leafAt, cpuIn, leafRow, LeafFacts, mpidrs-of, hash-of, row-number}
 
 module _
     {b : Board}
-    (typed : Typed b)
+    (sized : WordSized b)
     (well : WellFormed b)
     (sound : SoundCpus b)
     {m : ℕ}
@@ -54,9 +55,9 @@ module _
           slot =
               record {
                 list = mpidrList b;
-                mpidrs = mpidrs-of typed well sound;
+                mpidrs = mpidrs-of sized well sound;
                 hash = hashOf (mpidrList b);
-                is-hash = hash-of typed well sound;
+                is-hash = hash-of sized well sound;
                 slot = ap (slotIn (mpidrList b)) whole;
               };
         }
@@ -66,7 +67,7 @@ module _
 
         reg : Reg b cpu (mpidrAt b cpu / 2 ^ 32) (mpidrAt b cpu % 2 ^ 32)
         reg =
-            let t = cpu-reg typed well sound (n .is-cpu) in
+            let t = cpu-reg sized well sound (n .is-cpu) in
             let r = reg-bounds (t .2) in
             let p = mpidr-parts (t .0) (t .1) (r .0) (r .1) in
             rw (t .3, p .0, p .1) (t .2)
@@ -80,5 +81,5 @@ module _
         each : (k : ℕ) → k < leafCount b → RowFits b (leafAt b k) (rowAt (rowsBelow (sourceOf b) (leafCount b)) k)
         each k lt =
             let leaf = leaves .listing .only k lt in
-            rw (row-at (sourceOf b) (leafCount b) k lt, row-number typed well sound leaves k lt)
+            rw (row-at (sourceOf b) (leafCount b) k lt, row-number sized well sound leaves k lt)
             (row-fits (leafAt b k) (cpuIn b (leafAt b k)) leaf (leaves .names (leafAt b k) leaf))

@@ -7,29 +7,29 @@ use lib.ListN.{length, getD}
 use lib.Seq.{ext-getD}
 use Rattle.laws.proofs.ListingLaws.{listing-unique}
 use Rattle.laws.proofs.BlockLaws.{blocks-same}
-use Rattle.layout.specs.Row.{rowSize, rowCpu, rowUpper, rowLower, rowCluster, rowAt}
+use Rattle.layout.specs.facts.Row.{rowSize, rowCpu, rowUpper, rowLower, rowCluster, rowAt}
 use Rattle.layout.proofs.RowLaws.{row-same}
 use Rattle.affinity.specs.declared.Hash.{Hash}
-use Rattle.affinity.specs.Hash.{slotOf}
+use Rattle.affinity.specs.facts.Slot.{slotOf}
 use Rattle.affinity.proofs.HashMeans.{hash-unique}
-use Rattle.names.specs.Kind.{Kind, Named}
+use Rattle.names.specs.facts.Kind.{Kind, Named}
 use Rattle.names.proofs.NameMeans.{named-unique}
-use Rattle.tables.specs.Board.{Board, Typed, nodeName}
-use Rattle.wellformed.specs.Rules.{WellFormed}
+use Rattle.tables.specs.facts.Board.{Board, WordSized, nodeName}
+use Rattle.wellformed.specs.facts.Rules.{WellFormed}
 use Rattle.tables.proofs.DepthLaws.{child-unique}
-use Rattle.cpus.specs.Rules.{SoundCpus, SoundPhandles}
+use Rattle.cpus.specs.facts.Rules.{SoundCpus, SoundPhandles}
 use Rattle.cpus.proofs.RegMeans.{reg-unique}
-use Rattle.cpumap.specs.Map.{InMap, Is, Leaf}
-use Rattle.topology.specs.Rules.{MapRule}
+use Rattle.cpumap.specs.facts.Map.{InMap, OfKind, Leaf}
+use Rattle.topology.specs.facts.Rules.{MapRule}
 use Rattle.cpumap.proofs.NameFacts.{kinds-apart}
 use Rattle.leaves.proofs.LeafMeans.{names-unique}
 use Rattle.cpumap.proofs.MapMeans.{leaf-in-map}
-use Rattle.rows.specs.Fits.{Mpidrs, SocketWord, CoreWord, ThreadWord, SlotWord, RowFits, Fits}
+use Rattle.rows.specs.facts.Fits.{Mpidrs, SocketWord, CoreWord, ThreadWord, SlotWord, RowFits, Fits}
 use Rattle.rows.proofs.ShapeLaws.{socket-unique}
 use Rattle.rows.proofs.WordMeans.{cluster-word-only}
 
 -- the core and the thread
-core-thread : {A : Type 0} (b : Board) (leaf n : ℕ) → Named (nodeName b leaf) Kind.core n → Is b Kind.thread leaf → A
+core-thread : {A : Type 0} (b : Board) (leaf n : ℕ) → Named (nodeName b leaf) Kind.core n → OfKind b Kind.thread leaf → A
 core-thread b leaf n h t = absurd (kinds-apart b leaf Kind.core Kind.thread (λ e. omega arith) (n, h) t)
 
 pub core-word-unique : {b : Board} {leaf x y : ℕ} → CoreWord b leaf x → CoreWord b leaf y → x ≡ y
@@ -66,7 +66,7 @@ module _ {b : Board} (well : WellFormed b) where
 
 module _
     {b : Board}
-    (typed : Typed b)
+    (sized : WordSized b)
     (well : WellFormed b)
     (sound : SoundCpus b)
     (handles : SoundPhandles b)
@@ -90,7 +90,7 @@ module _
         (slot-word-unique well (rw (reg .0, reg .1) at (h .slot)) (g .slot))
       where
         cpu : rowCpu r ≡ rowCpu s
-        cpu = names-unique typed well handles leaf (rowCpu r) (rowCpu s) (h .cpu) (g .cpu)
+        cpu = names-unique sized well handles leaf (rowCpu r) (rowCpu s) (h .cpu) (g .cpu)
 
         reg : (rowUpper r ≡ rowUpper s) × (rowLower r ≡ rowLower s)
         reg = reg-unique well (rw cpu at (h .reg)) (g .reg)

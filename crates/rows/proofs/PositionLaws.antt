@@ -6,18 +6,19 @@ use Prim.Native.Nat.{ℕ}
 use native.Mathlib.Omega.{arith}
 use Rattle.names.specs.declared.TopologyName.{TopologyName}
 use Rattle.names.specs.declared.TopologyName.the-variants.{Socket, Cluster, Core, Thread, Other}
-use Rattle.tables.specs.Board.{parentWord}
+use Rattle.tables.specs.facts.Board.{parentWord}
 use Rattle.tables.specs.declared.Parent.{Parent}
-use Rattle.tables.specs.declared.Parent.the-variants.{Is, Top}
-use Rattle.tables.specs.Tree.{parentOf}
+use Rattle.tables.specs.declared.Parent.the-variants.{Record, Top}
+use Rattle.tables.specs.answers.Tree.{parentOf}
 use Rattle.tables.proofs.TreeLaws.{parent-is}
 use Rattle.cpumap.specs.declared.Position.{Position}
-use Rattle.cpumap.specs.Path.{topologyName, positionStep, positionOf}
+use Rattle.cpumap.specs.answers.Path.{topologyName, positionOf}
+use Rattle.cpumap.specs.steps.Position.{positionStep}
 use Rattle.cpumap.proofs.CodeLaws.{position-is}
 use Rattle.rows.specs.declared.Placed.{Placed}
-use Rattle.rows.specs.Row.{keepsPosition, placed}
+use Rattle.rows.specs.steps.Position.{keepsPosition, placed}
 
-step-kept : (p : ℕ) (name : TopologyName) (above : Position) → keepsPosition (Is p) name ≡ true → above ≡ positionStep name above
+step-kept : (p : ℕ) (name : TopologyName) (above : Position) → keepsPosition (Record p) name ≡ true → above ≡ positionStep name above
 step-kept p (Socket n) above e = let z : _≡_ {A = ℕ} 0 1 = cc in absurd (omega arith)
 step-kept p (Cluster n) above e = let z : _≡_ {A = ℕ} 0 1 = cc in absurd (omega arith)
 step-kept p (Core n) above e = refl
@@ -42,7 +43,7 @@ position-kept nodes pool i e n a k = a ∙ go (parentOf nodes i) refl (rw (e, n)
         parentOf nodes i ≡ p →
         keepsPosition p (topologyName nodes pool i) ≡ true →
         positionOf nodes pool (parentWord nodes i) ≡ positionOf nodes pool i
-    go (Is p) h k =
+    go (Record p) h k =
         let step = step-kept p (topologyName nodes pool i) (positionOf nodes pool p) k in
         rw (parent-is nodes i p h .1) (step ∙ position-is nodes pool i p h)
     go Top h k = let z : _≡_ {A = ℕ} 0 1 = cc in absurd (omega arith)

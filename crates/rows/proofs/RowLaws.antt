@@ -11,11 +11,12 @@ use borrow.Rule.Slice.PartMut.{midOf, putMid}
 use Rattle.laws.proofs.BlockLaws.{block-front, block-last}
 use Rattle.laws.proofs.PartLaws.{part-is, block-more}
 use Rattle.layout.specs.declared.Row.{Row}
-use Rattle.layout.specs.Row.{rowSize, rowWords, rowAt, withRow}
+use Rattle.layout.specs.facts.Row.{rowSize, rowAt}
+use Rattle.layout.specs.answers.Words.{rowWords, withRow}
 use Rattle.layout.proofs.RowLaws.{row-length, with-row}
 use Rattle.rows.specs.declared.NamedCpu.{NamedCpu}
-use Rattle.rows.specs.Row.{rowOf}
-use Rattle.rows.specs.Write.{Source, namedCpu, rowNumber, rowsBelow}
+use Rattle.rows.specs.answers.Leaf.{rowOf}
+use Rattle.rows.specs.answers.Write.{Source, namedCpu, rowNumber, rowsBelow}
 
 pub rows-length : (s : Source) (n : ℕ) → length (rowsBelow s n) ≡ rowSize * n
 unfolding rowsBelow

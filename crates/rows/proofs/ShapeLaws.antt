@@ -4,14 +4,14 @@ use mathlib.Core.Logic.{_⊎_, inl, inr, ⊎-elim}
 use Prim.Native.Nat.{ℕ}
 use native.Mathlib.Omega.{arith}
 use Rattle.laws.proofs.DecideLaws.{decided}
-use Rattle.names.specs.Kind.{Kind}
-use Rattle.tables.specs.Board.{Board, parentWord}
-use Rattle.tables.specs.Tree.{Child, Ancestor}
-use Rattle.wellformed.specs.Rules.{WellFormed}
+use Rattle.names.specs.facts.Kind.{Kind}
+use Rattle.tables.specs.facts.Board.{Board, parentWord}
+use Rattle.tables.specs.facts.Tree.{Child, Ancestor}
+use Rattle.wellformed.specs.facts.Rules.{WellFormed}
 use Rattle.tables.proofs.DepthLaws.{ancestor-earlier, ancestor-cases, ancestor-chain}
-use Rattle.cpus.specs.Rules.{SoundCpus}
-use Rattle.cpumap.specs.Map.{Map, InMap, Is}
-use Rattle.topology.specs.Rules.{MapRule, Allowed}
+use Rattle.cpus.specs.facts.Rules.{SoundCpus}
+use Rattle.cpumap.specs.facts.Map.{Map, InMap, OfKind}
+use Rattle.topology.specs.facts.Rules.{MapRule, Allowed}
 use Rattle.cpumap.proofs.NameFacts.{root-nameless, map-nameless}
 use Rattle.cpumap.proofs.MapMeans.{map-unique}
 use Rattle.topology.proofs.KindMeans.{parent-of, allowed-test}
@@ -19,9 +19,9 @@ use Rattle.topology.proofs.KindMeans.{parent-of, allowed-test}
 -- what the parent of a record of a kind is
 abbrev pub Under : Board → ℕ → Kind → Type 0
 Under b p Kind.socket = Map b p
-Under b p Kind.cluster = Map b p ⊎ (Is b Kind.socket p ⊎ Is b Kind.cluster p)
-Under b p Kind.core = Is b Kind.cluster p
-Under b p Kind.thread = Is b Kind.core p
+Under b p Kind.cluster = Map b p ⊎ (OfKind b Kind.socket p ⊎ OfKind b Kind.cluster p)
+Under b p Kind.core = OfKind b Kind.cluster p
+Under b p Kind.thread = OfKind b Kind.core p
 
 under : {b : Board} {p : ℕ} {kind : Kind} → Allowed b p kind → Under b p kind
 under (Allowed.mapSocket m) = m
@@ -33,15 +33,15 @@ under (Allowed.coreThread s) = s
 
 module _ (b : Board) (well : WellFormed b) (m : ℕ) (the-map : Map b m) (sound : SoundCpus b) (kept : (n p : ℕ) → MapRule b n p → ⊥) where
   -- the parent of a thread is a core, of a core a cluster, of a socket the map, of a cluster the map, a socket or a cluster
-  pub parent-kind : (i p : ℕ) (kind : Kind) → InMap b i → Child (b .nodes) p i → Is b kind i → Under b p kind
+  pub parent-kind : (i p : ℕ) (kind : Kind) → InMap b i → Child (b .nodes) p i → OfKind b kind i → Under b p kind
   parent-kind i p kind h c s =
       ⊎-elim
       under
-      (λ n. absurd (kept 20 i (MapRule.wrongKind i p kind h c s n)))
+      (λ n. absurd (kept 20 i (MapRule.cpuMapKind i p kind h c s n)))
       (decided (allowed-test b well m the-map p kind 0 (omega (arith, c .earlier, c .inside))))
 
   -- an ancestor with a kind is itself below the map
-  pub ancestor-in-map : (a i : ℕ) (kind : Kind) → InMap b i → Ancestor (b .nodes) a i → Is b kind a → InMap b a
+  pub ancestor-in-map : (a i : ℕ) (kind : Kind) → InMap b i → Ancestor (b .nodes) a i → OfKind b kind a → InMap b a
   ancestor-in-map a i kind h t s =
       ⊎-elim
       (λ e. absurd (not-map e))
@@ -59,7 +59,7 @@ module _ (b : Board) (well : WellFormed b) (m : ℕ) (the-map : Map b m) (sound 
           (ancestor-cases u (h .is-map .child))
 
   -- no socket is above a socket
-  sockets-apart : (s t : ℕ) → InMap b s → InMap b t → Ancestor (b .nodes) s t → Is b Kind.socket t → ⊥
+  sockets-apart : (s t : ℕ) → InMap b s → InMap b t → Ancestor (b .nodes) s t → OfKind b Kind.socket t → ⊥
   sockets-apart s t in-s in-t a is =
       let c = parent-of a in
       let top = parent-kind t (parentWord (b .nodes) t) Kind.socket in-t c is in
@@ -68,7 +68,7 @@ module _ (b : Board) (well : WellFormed b) (m : ℕ) (the-map : Map b m) (sound 
       ⊎-elim (λ q. omega arith) (λ v. omega (arith, ancestor-earlier v)) (ancestor-cases a c)
 
   -- a record has at most one socket above it
-  pub socket-unique : (i s t : ℕ) → InMap b i → Ancestor (b .nodes) s i → Is b Kind.socket s → Ancestor (b .nodes) t i → Is b Kind.socket t → s ≡ t
+  pub socket-unique : (i s t : ℕ) → InMap b i → Ancestor (b .nodes) s i → OfKind b Kind.socket s → Ancestor (b .nodes) t i → OfKind b Kind.socket t → s ≡ t
   socket-unique i s t h a is-s c is-t =
       ⊎-elim
       (λ e. e)

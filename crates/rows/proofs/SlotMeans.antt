@@ -2,19 +2,20 @@
 use mathlib.Core.Path.{_≡_, refl, sym, ap, _∙_}
 use Prim.Native.Nat.{ℕ, _^_, _<_}
 use lib.ListN.{length-map}
-use Rattle.laws.specs.Listing.{Member}
+use Rattle.laws.specs.facts.Listing.{Member}
 use Rattle.laws.proofs.IndexLaws.{index-unique, getD-map-lt}
-use Rattle.layout.specs.Row.{rowWords, rowSlot, rowAt}
-use Rattle.affinity.specs.Hash.{hashOf, slotIn}
-use Rattle.tables.specs.Board.{Board, Typed}
-use Rattle.wellformed.specs.Rules.{WellFormed}
-use Rattle.cpus.specs.Rules.{SoundCpus}
-use Rattle.cpus.specs.Check.{cpuList, mpidrAt, mpidrList}
+use Rattle.layout.specs.answers.Words.{rowWords}
+use Rattle.layout.specs.facts.Row.{rowSlot, rowAt}
+use Rattle.affinity.specs.answers.Hash.{hashOf, slotIn}
+use Rattle.tables.specs.facts.Board.{Board, WordSized}
+use Rattle.wellformed.specs.facts.Rules.{WellFormed}
+use Rattle.cpus.specs.facts.Rules.{SoundCpus}
+use Rattle.cpus.specs.answers.Check.{cpuList, mpidrAt, mpidrList}
 use Rattle.cpus.proofs.CpuGives.{mpidr-distinct}
-use Rattle.cpumap.specs.Map.{Leaf, Names}
-use Rattle.leaves.specs.Scan.{cpuOf, treeOf}
-use Rattle.rows.specs.Row.{rowOf}
-use Rattle.rows.specs.Write.{rowsBelow, sourceOf}
+use Rattle.cpumap.specs.facts.Map.{Leaf, Names}
+use Rattle.leaves.specs.answers.Scan.{cpuOf, treeOf}
+use Rattle.rows.specs.answers.Leaf.{rowOf}
+use Rattle.rows.specs.answers.Write.{rowsBelow, sourceOf}
 use Rattle.rows.proofs.RowLaws.{row-at}
 use Rattle.rows.proofs.SourceMeans.{leafCount, leafAt, cpuIn, leafRow, LeafFacts, hash-of, row-number}
 
@@ -22,14 +23,14 @@ row-slot : (b : Board) (leaf cpu : ℕ) → rowSlot (rowWords (leafRow b leaf cp
 unfolding rowWords rowOf
 row-slot b leaf cpu = refl
 
-module _ {b : Board} (typed : Typed b) (well : WellFormed b) (sound : SoundCpus b) (leaves : LeafFacts b) where
+module _ {b : Board} (sized : WordSized b) (well : WellFormed b) (sound : SoundCpus b) (leaves : LeafFacts b) where
   abbrev slotWord : ℕ → ℕ
   slotWord k = rowSlot (rowAt (rowsBelow (sourceOf b) (leafCount b)) k)
 
   -- the slot of row k is that of the MPIDR of its cpu record
   slot-word : (k : ℕ) → k < leafCount b → slotWord k ≡ slotIn (mpidrList b) (mpidrAt b (cpuIn b (leafAt b k)))
   slot-word k lt =
-      ap rowSlot (row-at (sourceOf b) (leafCount b) k lt ∙ ap rowWords (row-number typed well sound leaves k lt))
+      ap rowSlot (row-at (sourceOf b) (leafCount b) k lt ∙ ap rowWords (row-number sized well sound leaves k lt))
       ∙ row-slot b (leafAt b k) (cpuIn b (leafAt b k))
 
   -- the MPIDR of row k is a listed one
@@ -57,10 +58,10 @@ module _ {b : Board} (typed : Typed b) (well : WellFormed b) (sound : SoundCpus 
       names-k = leaves .names (leafAt b k) leaf-k
 
       same-mpidr : mpidrAt b (cpuIn b (leafAt b j)) ≡ mpidrAt b (cpuIn b (leafAt b k))
-      same-mpidr = hash-of typed well sound .distinct _ _ (listed j lj) (listed k lk) (sym (slot-word j lj) ∙ e ∙ slot-word k lk)
+      same-mpidr = hash-of sized well sound .distinct _ _ (listed j lj) (listed k lk) (sym (slot-word j lj) ∙ e ∙ slot-word k lk)
 
       same : cpuIn b (leafAt b j) ≡ cpuIn b (leafAt b k)
-      same = mpidr-distinct typed well sound (names-j .is-cpu) (names-k .is-cpu) same-mpidr
+      same = mpidr-distinct sized well sound (names-j .is-cpu) (names-k .is-cpu) same-mpidr
 
   pub slots-bounded : (k : ℕ) → k < leafCount b → slotWord k < 2 ^ (hashOf (mpidrList b) .bits)
-  slots-bounded k lt = rw (slot-word k lt) (hash-of typed well sound .bounded _ (listed k lt))
+  slots-bounded k lt = rw (slot-word k lt) (hash-of sized well sound .bounded _ (listed k lt))

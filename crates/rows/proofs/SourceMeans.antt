@@ -3,32 +3,32 @@ use mathlib.Core.Path.{_≡_, sym, _∙_}
 use mathlib.Core.List.{map}
 use Prim.Native.Nat.{ℕ, _<_}
 use lib.ListN.{length, getD, length-map}
-use Rattle.laws.specs.Listing.{Listing}
+use Rattle.laws.specs.facts.Listing.{Listing}
 use Rattle.laws.proofs.IndexLaws.{getD-map-lt}
 use Rattle.layout.specs.declared.Row.{Row}
-use Rattle.affinity.specs.Mask.{maskOf}
-use Rattle.affinity.specs.Hash.{hashOf, slotIn}
-use Rattle.affinity.specs.List.{AllAffine}
-use Rattle.affinity.specs.HashFacts.{IsHash}
+use Rattle.affinity.specs.answers.Mask.{maskOf}
+use Rattle.affinity.specs.answers.Hash.{hashOf, slotIn}
+use Rattle.affinity.specs.steps.List.{AllAffine}
+use Rattle.affinity.specs.facts.Hash.{IsHash}
 use Rattle.affinity.proofs.SlotLaws.{slot-guarded}
 use Rattle.affinity.proofs.HashMeans.{hash-is}
-use Rattle.tables.specs.Board.{Board, Typed}
-use Rattle.wellformed.specs.Rules.{WellFormed}
-use Rattle.cpus.specs.Rules.{SoundCpus, SoundPhandles}
-use Rattle.cpus.specs.Check.{cpuCount, cpuList, mpidrAt, mpidrList}
+use Rattle.tables.specs.facts.Board.{Board, WordSized}
+use Rattle.wellformed.specs.facts.Rules.{WellFormed}
+use Rattle.cpus.specs.facts.Rules.{SoundCpus, SoundPhandles}
+use Rattle.cpus.specs.answers.Check.{cpuCount, cpuList, mpidrAt, mpidrList}
 use Rattle.cpus.proofs.CpuMeans.{cpu-listing, cpu-count}
 use Rattle.cpus.proofs.RegMeans.{reg-affine}
 use Rattle.cpus.proofs.CpuGives.{cpu-reg}
-use Rattle.cpumap.specs.Map.{Map, Leaf, Names}
-use Rattle.cpumap.specs.Find.{mapOf}
-use Rattle.topology.specs.Rules.{MapRule}
-use Rattle.leaves.specs.Scan.{cpuOf, treeOf, leavesOf}
+use Rattle.cpumap.specs.facts.Map.{Map, Leaf, Names}
+use Rattle.cpumap.specs.answers.Find.{mapOf}
+use Rattle.topology.specs.facts.Rules.{MapRule}
+use Rattle.leaves.specs.answers.Scan.{cpuOf, treeOf, leavesOf}
 use Rattle.cpumap.proofs.MapMeans.{map-of, map-found}
 use Rattle.leaves.proofs.PhandleMeans.{cpuAt}
 use Rattle.leaves.proofs.TreeGives.{leaf-listing, leaf-names, leaf-cpu, leaves-apart, same-count}
-use Rattle.rows.specs.Row.{rowOf}
-use Rattle.rows.specs.Write.{rowNumber, sourceOf}
-use Rattle.rows.specs.Fits.{Mpidrs}
+use Rattle.rows.specs.answers.Leaf.{rowOf}
+use Rattle.rows.specs.answers.Write.{rowNumber, sourceOf}
+use Rattle.rows.specs.facts.Fits.{Mpidrs}
 
 -- the number of rows; the leaf and the cpu record of row k
 abbrev pub leafCount : Board → ℕ
@@ -56,7 +56,7 @@ pub record LeafFacts (b : Board) : Type 0 where
 -- of an accepted map they hold
 module _
     {b : Board}
-    (typed : Typed b)
+    (sized : WordSized b)
     (well : WellFormed b)
     (sound : SoundCpus b)
     (handles : SoundPhandles b)
@@ -67,11 +67,11 @@ module _
     pub leaf-facts : LeafFacts b
     leaf-facts =
         record {
-          listing = leaf-listing typed well sound handles found kept;
-          index = leaf-cpu typed well sound handles found kept;
-          names = leaf-names typed well sound handles found kept;
-          apart = leaves-apart typed well sound handles found kept;
-          count = same-count typed well sound handles found kept;
+          listing = leaf-listing sized well sound handles found kept;
+          index = leaf-cpu sized well sound handles found kept;
+          names = leaf-names sized well sound handles found kept;
+          apart = leaves-apart sized well sound handles found kept;
+          count = same-count sized well sound handles found kept;
         }
       where
         found : Map b (mapOf (b .nodes) (b .pool))
@@ -81,7 +81,7 @@ module _
     pub leaf-count : leafCount b ≡ cpuCount b
     leaf-count = leaf-facts .count ∙ sym (cpu-count b)
 
-module _ {b : Board} (typed : Typed b) (well : WellFormed b) (sound : SoundCpus b) where
+module _ {b : Board} (sized : WordSized b) (well : WellFormed b) (sound : SoundCpus b) where
   pub mpidrs-of : Mpidrs b (mpidrList b)
   mpidrs-of =
       record {
@@ -89,7 +89,7 @@ module _ {b : Board} (typed : Typed b) (well : WellFormed b) (sound : SoundCpus 
         listing = cpu-listing well;
         size = length-map (cpuList b) (mpidrAt b);
         each = λ k lt.
-            let t = cpu-reg typed well sound (cpu-listing well .only k lt) in (t .0, t .1, t .2, getD-map-lt (mpidrAt b) (cpuList b) k lt ∙ t .3);
+            let t = cpu-reg sized well sound (cpu-listing well .only k lt) in (t .0, t .1, t .2, getD-map-lt (mpidrAt b) (cpuList b) k lt ∙ t .3);
       }
 
   -- they have affinity bits alone, so their hash is the computed one
@@ -99,7 +99,7 @@ module _ {b : Board} (typed : Typed b) (well : WellFormed b) (sound : SoundCpus 
       affine : AllAffine (mpidrList b)
       affine i lt =
           let in-cpus = rw (length-map (cpuList b) (mpidrAt b)) at lt in
-          let t = cpu-reg typed well sound (cpu-listing well .only i in-cpus) in
+          let t = cpu-reg sized well sound (cpu-listing well .only i in-cpus) in
           rw (getD-map-lt (mpidrAt b) (cpuList b) i in-cpus, t .3) (reg-affine (t .2))
 
   -- row k is that of leaf k and of the cpu record that it names

@@ -5,30 +5,30 @@ use Prim.Native.Nat.{ℕ, _<_}
 use native.Mathlib.Omega.{arith}
 use lib.ListN.{getD}
 use Rattle.names.specs.declared.TopologyName.{TopologyName}
-use Rattle.names.specs.Kind.{Kind, Named}
-use Rattle.names.specs.Name.{answered}
-use Rattle.tables.specs.Board.{Board, nodeCount, nodeName, parentWord}
-use Rattle.wellformed.specs.Rules.{WellFormed}
-use Rattle.cpus.specs.Rules.{SoundCpus}
-use Rattle.cpumap.specs.Map.{Map, Is, Leaf}
-use Rattle.topology.specs.Rules.{MapRule}
-use Rattle.cpumap.specs.Path.{topologyName, clusterPath, socketNumber}
-use Rattle.cpumap.specs.Number.{kindNumber}
+use Rattle.names.specs.facts.Kind.{Kind, Named}
+use Rattle.names.specs.answers.Name.{namedAs}
+use Rattle.tables.specs.facts.Board.{Board, nodeCount, nodeName, parentWord}
+use Rattle.wellformed.specs.facts.Rules.{WellFormed}
+use Rattle.cpus.specs.facts.Rules.{SoundCpus}
+use Rattle.cpumap.specs.facts.Map.{Map, OfKind, Leaf}
+use Rattle.topology.specs.facts.Rules.{MapRule}
+use Rattle.cpumap.specs.answers.Path.{topologyName, clusterPath, socketNumber}
+use Rattle.cpumap.specs.answers.Number.{kindNumber}
 use Rattle.cpumap.proofs.NameFacts.{root-nameless, kinds-apart, topology-is}
 use Rattle.topology.proofs.KindMeans.{parent-of}
 use Rattle.cpumap.proofs.PathWords.{PathWord, cluster-above, above-cluster, path-word, path-word-only}
 use Rattle.cpumap.proofs.SocketMeans as sockets
 use Rattle.cpumap.proofs.MapMeans.{leaf-in-map, in-map-inside}
-use Rattle.rows.specs.Row.{coreOf, threadOf}
-use Rattle.rows.specs.Fits.{SocketWord, ClusterWord, CoreWord, ThreadWord}
+use Rattle.rows.specs.answers.Leaf.{coreOf, threadOf}
+use Rattle.rows.specs.facts.Fits.{SocketWord, ClusterWord, CoreWord, ThreadWord}
 use Rattle.rows.proofs.ShapeLaws.{parent-kind}
 
 -- a leaf is a core or a thread
-leaf-kind : {b : Board} {leaf : ℕ} → Leaf b leaf → Is b Kind.core leaf ⊎ Is b Kind.thread leaf
+leaf-kind : {b : Board} {leaf : ℕ} → Leaf b leaf → OfKind b Kind.core leaf ⊎ OfKind b Kind.thread leaf
 leaf-kind (Leaf.aThread i t) = inr t
 leaf-kind (Leaf.aCore i c none) = inl c
 
-leaf-not : (b : Board) (leaf : ℕ) (kind : Kind) → kindNumber (answered kind 0) < 3 → Leaf b leaf → Is b kind leaf → ⊥
+leaf-not : (b : Board) (leaf : ℕ) (kind : Kind) → kindNumber (namedAs kind 0) < 3 → Leaf b leaf → OfKind b kind leaf → ⊥
 leaf-not b leaf kind lt l s =
     ⊎-elim (kinds-apart b leaf kind Kind.core (λ e. omega arith) s) (kinds-apart b leaf kind Kind.thread (λ e. omega arith) s) (leaf-kind l)
 
@@ -47,7 +47,7 @@ module _ {b : Board} (well : WellFormed b) (sound : SoundCpus b) where
 
   -- the clusters, and nothing else fits
   module _ {leaf : ℕ} (l : Leaf b leaf) (d : ℕ) (lt : d < 4) where
-    not-cluster : Is b Kind.cluster leaf → ⊥
+    not-cluster : OfKind b Kind.cluster leaf → ⊥
     not-cluster = leaf-not b leaf Kind.cluster (omega arith) l
 
     abbrev pathNumber : ℕ
@@ -71,7 +71,7 @@ module _ {b : Board} (well : WellFormed b) (sound : SoundCpus b) where
   abbrev name : ℕ → TopologyName
   name i = topologyName (b .nodes) (b .pool) i
 
-  named : {i n : ℕ} (kind : Kind) → i < nodeCount (b .nodes) → Named (nodeName b i) kind n → name i ≡ answered kind n
+  named : {i n : ℕ} (kind : Kind) → i < nodeCount (b .nodes) → Named (nodeName b i) kind n → name i ≡ namedAs kind n
   named {i} {n} kind lt h = topology-is b well i kind n lt .1 h
 
   pub core-word :

@@ -7,8 +7,8 @@ use lib.ListN.{length, take, drop, length-append, length-drop}
 use lib.Seq.{take-at, drop-at}
 use borrow.Author.Tests.{le-ltb}
 use Rattle.laws.proofs.BlockLaws.{block-front}
-use Rattle.layout.specs.Row.{rowSize, rowAt}
-use Rattle.rows.specs.Write.{Source, rowsBelow, written}
+use Rattle.layout.specs.facts.Row.{rowSize, rowAt}
+use Rattle.rows.specs.answers.Write.{Source, rowsBelow, written}
 use Rattle.rows.proofs.RowLaws.{rows-length}
 
 module _ (s : Source) (before : List ℕ) (room : rowSize * length (s .leaves) ≤ length before) where

@@ -1,4 +1,4 @@
 -- What the contracts of `rows` cite, and what a row holds, as facts.
-pub mod Fits
-pub mod Row
-pub mod Write
+pub mod facts
+pub mod answers
+pub mod steps

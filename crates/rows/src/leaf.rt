@@ -11,9 +11,10 @@ use names::TopologyName;
 use tables::Parent;
 use tables::parent_of;
 ghost use mathlib.Core.Path.{_≡_};
-ghost use Rattle.tables.specs.Board.{parentWord};
-ghost use Rattle.cpumap.specs.Path.{topologyName, positionOf};
-ghost use Rattle.rows.specs.Row.{coreOf, threadOf, keepsPosition, placed, rowOf};
+ghost use Rattle.tables.specs.facts.Board.{parentWord};
+ghost use Rattle.cpumap.specs.answers.Path.{topologyName, positionOf};
+ghost use Rattle.rows.specs.answers.Leaf.{coreOf, threadOf, rowOf};
+ghost use Rattle.rows.specs.steps.Position.{keepsPosition, placed};
 
 // The number of a leaf's core: its own, or for a thread that of its parent p.
 fn core_of(nodes: &[u32], pool: &[u8], name: TopologyName, p: usize) -> u32
@@ -45,7 +46,7 @@ fn keeps_position(parent: Parent, name: TopologyName) -> bool
     ensures { λ r. ⌜ r ≡ keepsPosition parent name ⌝ }
 {
     match parent {
-        Parent::Is(_) => match name {
+        Parent::Record(_) => match name {
             TopologyName::Socket(_) => false,
             TopologyName::Cluster(_) => false,
             TopologyName::Core(_) => true,

@@ -9,8 +9,8 @@ use layout::put_row;
 use tables::node_word;
 ghost use mathlib.Core.Path.{_≡_};
 ghost use lib.ListN.{getD};
-ghost use Rattle.rows.specs.Row.{placed};
-ghost use Rattle.rows.specs.Write.{namedCpu, written, source};
+ghost use Rattle.rows.specs.steps.Position.{placed};
+ghost use Rattle.rows.specs.answers.Write.{namedCpu, written, source};
 
 // An element of a list, 0 outside it.
 fn record_at(list: &[u16], k: usize) -> usize

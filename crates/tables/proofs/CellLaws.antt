@@ -8,11 +8,13 @@ use lib.Dec.{eqb, leb}
 use lib.ListN.{length, getD}
 use lib.Seq.{drop-cons}
 use borrow.Author.Tests.{le-leb, leb-true, eqb-true, eqb-false, ne-eqb}
-use Rattle.laws.specs.Same.{sameList}
+use Rattle.laws.specs.answers.Same.{sameList}
 use Rattle.laws.proofs.SameLaws.{same-refl, same-equal}
 use Rattle.laws.proofs.TestLaws.{false-unless}
-use Rattle.tables.specs.Board.{range, rangeIs}
-use Rattle.tables.specs.Property.{cellBytes, cellAt}
+use Rattle.tables.specs.facts.Board.{range}
+use Rattle.tables.specs.answers.Range.{rangeIs}
+use Rattle.tables.specs.facts.Property.{cellBytes}
+use Rattle.tables.specs.answers.Lookup.{cellAt}
 
 -- the number of four bytes
 abbrev join : ℕ → ℕ → ℕ → ℕ → ℕ

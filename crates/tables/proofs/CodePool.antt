@@ -9,10 +9,11 @@ use lib.Dec.{leb}
 use lib.ListN.{length, getD, drop, length-drop}
 use lib.Seq.{length-take-le}
 use borrow.Author.Tests.{le-leb, leb-true, eq-eqb}
-use Rattle.laws.specs.Same.{sameList}
+use Rattle.laws.specs.answers.Same.{sameList}
 use Rattle.laws.proofs.SameLaws.{same-equal, same-length, same-step}
-use Rattle.tables.specs.Board.{range, rangeIs}
-use Rattle.tables.specs.Property.{cellAt}
+use Rattle.tables.specs.facts.Board.{range}
+use Rattle.tables.specs.answers.Range.{rangeIs}
+use Rattle.tables.specs.answers.Lookup.{cellAt}
 
 -- field 0 of a record is its first word
 pub word-zero : (words : List ℕ) (start : ℕ) → getD words (start + 0) 0 ≡ getD words start 0

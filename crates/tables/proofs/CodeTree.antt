@@ -6,8 +6,10 @@ use Prim.Native.Nat.{ℕ, _≤_, _<_}
 use native.Mathlib.Omega.{arith}
 use lib.Dec.{eqb}
 use borrow.Author.Tests.{ne-eqb, eqb-true, eqb-false}
-use Rattle.tables.specs.declared.Parent.the-variants.{Is}
-use Rattle.tables.specs.Tree.{parentOf, isBelow, isAtOrBelow, Ancestor}
+use Rattle.tables.specs.declared.Parent.the-variants.{Record}
+use Rattle.tables.specs.answers.Tree.{parentOf, isBelow}
+use Rattle.tables.specs.steps.Tree.{isAtOrBelow}
+use Rattle.tables.specs.facts.Tree.{Ancestor}
 use Rattle.tables.proofs.TreeLaws.{parent-is, below-ancestor, below-here, below-parent}
 
 module _ (nodes : List ℕ) where
@@ -37,7 +39,7 @@ module _ (nodes : List ℕ) where
   reach-on a p lt = rw (ne-eqb p a (λ e. omega arith))
 
   -- a record is below what its parent is or is below
-  pub below-from : (a i p : ℕ) → parentOf nodes i ≡ Is p → isAtOrBelow nodes p a ≡ isBelow nodes i a
+  pub below-from : (a i p : ℕ) → parentOf nodes i ≡ Record p → isAtOrBelow nodes p a ≡ isBelow nodes i a
   below-from a i p h = go (eqb p a) refl
     where
       go : (t : Bool) → eqb p a ≡ t → cond t true (isBelow nodes p a) ≡ isBelow nodes i a

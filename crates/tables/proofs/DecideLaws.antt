@@ -3,8 +3,10 @@ use mathlib.Core.Path.{_≡_}
 use mathlib.Core.List.{List}
 use Prim.Native.Nat.{ℕ}
 use Rattle.laws.proofs.DecideLaws.{Decides, decides-as, eq-decides, lt-decides, both-decides}
-use Rattle.tables.specs.Board.{Inside, range, rangeIs, nodeCount, parentWord}
-use Rattle.tables.specs.Tree.{Child, isChild}
+use Rattle.tables.specs.facts.Board.{Inside, range, nodeCount, parentWord}
+use Rattle.tables.specs.answers.Range.{rangeIs}
+use Rattle.tables.specs.facts.Tree.{Child}
+use Rattle.tables.specs.answers.Tree.{isChild}
 use Rattle.tables.proofs.LookupLaws.{range-is-true, true-range-is}
 
 -- the test of a child

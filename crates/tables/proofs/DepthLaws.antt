@@ -8,8 +8,9 @@ use native.Mathlib.Nat.{eq-or-lt-of-le, le-of-suc-le-suc}
 use native.Mathlib.Omega.{arith}
 use Rattle.laws.proofs.SearchLaws.{true-false}
 use Rattle.laws.proofs.TestLaws.{false-unless}
-use Rattle.tables.specs.Board.{nodeCount, parentWord}
-use Rattle.tables.specs.Tree.{isBelow, Child, Ancestor}
+use Rattle.tables.specs.facts.Board.{nodeCount, parentWord}
+use Rattle.tables.specs.answers.Tree.{isBelow}
+use Rattle.tables.specs.facts.Tree.{Child, Ancestor}
 use Rattle.tables.proofs.TreeLaws.{ancestor-below, below-ancestor}
 
 -- each record's parent is the record before it or an ancestor of the record before it

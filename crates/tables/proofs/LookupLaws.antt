@@ -8,15 +8,17 @@ use native.Mathlib.Omega.{arith}
 use lib.Dec.{ltb, leb, eqb}
 use lib.ListN.{length}
 use borrow.Author.Tests.{le-leb, leb-true, eq-eqb, eqb-true, ltb-true, ltb-false}
-use Rattle.laws.specs.Search.{lowest}
+use Rattle.laws.specs.answers.Search.{lowest}
 use Rattle.laws.proofs.SearchLaws.{true-false, lowest-below, lowest-passes}
 use Rattle.laws.proofs.FirstLaws.{compared}
 use Rattle.laws.proofs.SameLaws.{same-refl, same-equal}
 use Rattle.laws.proofs.TestLaws.{both-true}
 use Rattle.tables.specs.declared.Lookup.{Lookup}
 use Rattle.tables.specs.declared.Lookup.the-variants.{At, Missing}
-use Rattle.tables.specs.Board.{Board, Inside, range, rangeIs, propCount, propNode, keyOffset, keyLength}
-use Rattle.tables.specs.Property.{Property, isProperty, lookup}
+use Rattle.tables.specs.facts.Board.{Board, Inside, range, propCount, propNode, keyOffset, keyLength}
+use Rattle.tables.specs.answers.Range.{rangeIs}
+use Rattle.tables.specs.facts.Property.{Property}
+use Rattle.tables.specs.answers.Lookup.{isProperty, lookup}
 
 -- the test of a range of the pool
 module _ (pool : List ℕ) (offset len : ℕ) (bytes : List ℕ) where

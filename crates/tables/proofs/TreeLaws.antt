@@ -5,11 +5,12 @@ use mathlib.Core.List.{List}
 use Prim.Native.Nat.{ℕ, zero, suc, _≤_, _<_}
 use native.Mathlib.Nat.{le-refl}
 use native.Mathlib.Omega.{arith}
-use Rattle.tables.specs.Board.{nodeCount, parentWord}
+use Rattle.tables.specs.facts.Board.{nodeCount, parentWord}
 use lib.Dec.{ltb, eqb}
 use borrow.Author.Tests.{lt-ltb, le-ltb, ltb-true, eq-eqb, eqb-true}
-use Rattle.tables.specs.declared.Parent.the-variants.{Is, Top}
-use Rattle.tables.specs.Tree.{hasParent, climbIn, climb, belowStep, parentOf, isBelow, Child, Ancestor}
+use Rattle.tables.specs.declared.Parent.the-variants.{Record, Top}
+use Rattle.tables.specs.answers.Tree.{hasParent, climbIn, climb, belowStep, parentOf, isBelow}
+use Rattle.tables.specs.facts.Tree.{Child, Ancestor}
 
 module _ (nodes : List ℕ) where
   -- when a record has a parent
@@ -39,11 +40,11 @@ module _ (nodes : List ℕ) where
       go false p q = let z : _≡_ {A = ℕ} 0 1 = cc in absurd (omega arith)
 
   -- what an answer of `parentOf` shows
-  pub parent-is : (i p : ℕ) → parentOf nodes i ≡ Is p → (hasParent nodes i ≡ true) × (parentWord nodes i ≡ p) × (p < i)
+  pub parent-is : (i p : ℕ) → parentOf nodes i ≡ Record p → (hasParent nodes i ≡ true) × (parentWord nodes i ≡ p) × (p < i)
   unfolding parentOf
   parent-is i p h = go (hasParent nodes i) refl h
     where
-      go : (b : Bool) → hasParent nodes i ≡ b → cond b (Is (parentWord nodes i)) Top ≡ Is p → (hasParent nodes i ≡ true) × (parentWord nodes i ≡ p) × (p < i)
+      go : (b : Bool) → hasParent nodes i ≡ b → cond b (Record (parentWord nodes i)) Top ≡ Record p → (hasParent nodes i ≡ true) × (parentWord nodes i ≡ p) × (p < i)
       go true e g = let w : parentWord nodes i ≡ p = cc in (e, w, rw w at (the-parent i e .earlier))
       go false e g = let z : _≡_ {A = ℕ} 0 1 = cc in absurd (omega arith)
 
@@ -51,7 +52,7 @@ module _ (nodes : List ℕ) where
   unfolding parentOf
   parent-top i h = go (hasParent nodes i) refl h
     where
-      go : (b : Bool) → hasParent nodes i ≡ b → cond b (Is (parentWord nodes i)) Top ≡ Top → hasParent nodes i ≡ false
+      go : (b : Bool) → hasParent nodes i ≡ b → cond b (Record (parentWord nodes i)) Top ≡ Top → hasParent nodes i ≡ false
       go true e g = let z : _≡_ {A = ℕ} 0 1 = cc in absurd (omega arith)
       go false e g = e
 

@@ -1,4 +1,5 @@
-// A board's three tables, read without trusting them: records, ancestors, ranges of the pool, properties.
+// A board's three tables, read without trusting them: records, ancestors, ranges of the pool, properties; and the names of the bindings.
+pub mod binding;
 mod pool;
 mod property;
 mod tree;
@@ -18,7 +19,7 @@ pub use words::wide;
 
 // A record's parent, or Top where it has none.
 pub enum Parent {
-    Is(usize),
+    Record(usize),
     Top,
 }
 

@@ -2,9 +2,9 @@
 ghost use mathlib.Core.Path.{_≡_};
 ghost use Prim.Native.Nat.{_+_, _*_};
 ghost use lib.Dec.{leb};
-ghost use Rattle.laws.specs.Same.{sameList};
-ghost use Rattle.tables.specs.Board.{rangeIs};
-ghost use Rattle.tables.specs.Property.{cellAt};
+ghost use Rattle.laws.specs.answers.Same.{sameList};
+ghost use Rattle.tables.specs.answers.Range.{rangeIs};
+ghost use Rattle.tables.specs.answers.Lookup.{cellAt};
 
 // Whether two byte strings are equal, four bytes at a time as long as there are four. Names that begin alike often end
 // apart, so the last four are compared first.
@@ -60,7 +60,7 @@ pub fn range_is(pool: &[u8], offset: usize, len: usize, bytes: &[u8]) -> bool
     false
 }
 
-fn join(a: u8, b: u8, c: u8, d: u8) -> u32
+fn big_endian(a: u8, b: u8, c: u8, d: u8) -> u32
     ensures { λ r. ⌜ r ≡ a * 16777216 + b * 65536 + c * 256 + d ⌝ }
 {
     (a as u32) * 16777216 + (b as u32) * 65536 + (c as u32) * 256 + (d as u32)
@@ -76,5 +76,5 @@ pub fn cell_at(pool: &[u8], at: usize) -> u32
     if pool.len() - 4 < at {
         return 0;
     }
-    join(pool[at], pool[at + 1], pool[at + 2], pool[at + 3])
+    big_endian(pool[at], pool[at + 1], pool[at + 2], pool[at + 3])
 }

@@ -3,7 +3,7 @@ use crate::Lookup;
 use crate::pool::range_is;
 use crate::words::prop_word;
 ghost use mathlib.Core.Path.{_≡_};
-ghost use Rattle.tables.specs.Property.{isProperty, lookup};
+ghost use Rattle.tables.specs.answers.Lookup.{isProperty, lookup};
 
 // Whether property record k is the node's and has the name `key`.
 fn is_property(props: &[u32], pool: &[u8], node: usize, key: &[u8], k: usize) -> bool

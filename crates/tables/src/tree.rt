@@ -4,8 +4,10 @@ use crate::pool::range_is;
 use crate::words::node_word;
 use crate::words::wide;
 ghost use mathlib.Core.Path.{_≡_};
-ghost use Rattle.tables.specs.Board.{nameOffset, nameLength, rangeIs};
-ghost use Rattle.tables.specs.Tree.{isChild, parentOf, isBelow, isAtOrBelow};
+ghost use Rattle.tables.specs.facts.Board.{nameOffset, nameLength};
+ghost use Rattle.tables.specs.answers.Range.{rangeIs};
+ghost use Rattle.tables.specs.answers.Tree.{isChild, parentOf, isBelow};
+ghost use Rattle.tables.specs.steps.Tree.{isAtOrBelow};
 
 // The parent of record i. A record outside the table has none, nor has one whose parent word is not below its number.
 pub fn parent_of(nodes: &[u32], i: usize) -> Parent
@@ -18,7 +20,7 @@ pub fn parent_of(nodes: &[u32], i: usize) -> Parent
     if i <= word {
         return Parent::Top;
     }
-    Parent::Is(word)
+    Parent::Record(word)
 }
 
 // Whether record i is a child of record p.
@@ -42,7 +44,7 @@ fn reaches(nodes: &[u32], p: usize, a: usize) -> bool
         return p == a;
     }
     let parent = parent_of(nodes, p);
-    let Parent::Is(q) = parent else {
+    let Parent::Record(q) = parent else {
         return false;
     };
     reaches(nodes, q, a)
@@ -53,7 +55,7 @@ pub fn is_below(nodes: &[u32], i: usize, a: usize) -> bool
     ensures { λ r. ⌜ r ≡ isBelow (now (nodes .entry)) i a ⌝ }
 {
     let parent = parent_of(nodes, i);
-    let Parent::Is(p) = parent else {
+    let Parent::Record(p) = parent else {
         return false;
     };
     if p <= a {

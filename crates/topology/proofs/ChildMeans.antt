@@ -6,16 +6,16 @@ use mathlib.Core.List.{List}
 use Prim.Native.Nat.{ℕ, _+_, _<_}
 use native.Mathlib.Numerals.{add-one}
 use lib.ListN.{length}
-use Rattle.laws.specs.Search.{countBelow, listBelow}
-use Rattle.laws.specs.Listing.{Listing}
+use Rattle.laws.specs.answers.Search.{countBelow, listBelow}
+use Rattle.laws.specs.facts.Listing.{Listing}
 use Rattle.laws.proofs.SearchLaws.{list-length}
 use Rattle.laws.proofs.ListingLaws.{listed, listing-unique}
 use Rattle.laws.proofs.DecideLaws.{Decides, decides-as, decides-not}
-use Rattle.tables.specs.Tree.{Child}
+use Rattle.tables.specs.facts.Tree.{Child}
 use Rattle.tables.proofs.DepthLaws.{DepthFirst, first-child}
-use Rattle.tables.specs.Tree.{isChild}
+use Rattle.tables.specs.answers.Tree.{isChild}
 use Rattle.tables.proofs.DecideLaws.{child-test}
-use Rattle.topology.specs.Check.{hasChild}
+use Rattle.topology.specs.answers.Check.{hasChild}
 
 module _ (nodes : List ℕ) where
   -- the children of p before record i, and how many there are

@@ -6,15 +6,16 @@ use Prim.Native.Nat.{ℕ, _+_, _-_, _≤_, _<_}
 use native.Mathlib.Omega.{arith}
 use lib.Dec.{eqb, ltb}
 use borrow.Author.Tests.{le-ltb, eq-eqb, ne-eqb}
-use Rattle.laws.specs.Fault.{orNumber}
-use Rattle.laws.specs.Search.{countBelow}
+use Rattle.laws.specs.answers.Fault.{orNumber}
+use Rattle.laws.specs.answers.Search.{countBelow}
 use Rattle.names.specs.declared.TopologyName.{TopologyName}
-use Rattle.tables.specs.Board.{nodeCount, parentWord}
-use Rattle.tables.specs.Tree.{isChild, isBelow, Child, Ancestor}
+use Rattle.tables.specs.facts.Board.{nodeCount, parentWord}
+use Rattle.tables.specs.answers.Tree.{isChild, isBelow}
+use Rattle.tables.specs.facts.Tree.{Child, Ancestor}
 use Rattle.tables.proofs.TreeLaws.{below-ancestor}
-use Rattle.cpumap.specs.Path.{topologyName}
-use Rattle.cpumap.specs.Number.{kindNumber}
-use Rattle.topology.specs.Check.{hasChild, kindFault, numberFault, shapeFault, isLeafName, mapRecordFault, shape, mapRecordShape}
+use Rattle.cpumap.specs.answers.Path.{topologyName}
+use Rattle.cpumap.specs.answers.Number.{kindNumber}
+use Rattle.topology.specs.answers.Check.{hasChild, kindFault, numberFault, shapeFault, isLeafName, mapRecordFault, shape, mapRecordShape}
 use Rattle.laws.proofs.PassLaws.{count-none}
 
 -- the records up to p are no children of p

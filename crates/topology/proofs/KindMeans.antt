@@ -9,7 +9,7 @@ use native.Mathlib.Numerals.{add-one}
 use native.Mathlib.Omega.{arith}
 use lib.Dec.{eqb}
 use borrow.Author.Tests.{ne-eqb}
-use Rattle.laws.specs.Fault.{orNumber}
+use Rattle.laws.specs.answers.Fault.{orNumber}
 use Rattle.laws.proofs.SearchLaws.{true-false}
 use Rattle.laws.proofs.FaultLaws.{or-number-zero}
 use Rattle.laws.proofs.LeastLaws.{Tested}
@@ -17,26 +17,26 @@ use Rattle.laws.proofs.DecideLaws.{Decides, eq-decides}
 use Rattle.laws.proofs.TestedLaws.{Decided, decide-cases, tested-unless}
 use Rattle.names.specs.declared.TopologyName.{TopologyName}
 use Rattle.names.specs.declared.TopologyName.the-variants.{Other}
-use Rattle.names.specs.Kind.{Kind, Named}
-use Rattle.names.specs.Name.{answered}
-use Rattle.tables.specs.Board.{Board, nodeCount, nodeName, parentWord}
-use Rattle.tables.specs.Tree.{Child, Ancestor}
-use Rattle.wellformed.specs.Rules.{WellFormed}
+use Rattle.names.specs.facts.Kind.{Kind, Named}
+use Rattle.names.specs.answers.Name.{namedAs}
+use Rattle.tables.specs.facts.Board.{Board, nodeCount, nodeName, parentWord}
+use Rattle.tables.specs.facts.Tree.{Child, Ancestor}
+use Rattle.wellformed.specs.facts.Rules.{WellFormed}
 use Rattle.tables.proofs.DepthLaws.{child-unique, first-child}
 use Rattle.tables.proofs.TreeLaws.{the-parent}
 use Rattle.wellformed.proofs.WellFormedLaws.{wf-depth}
-use Rattle.cpumap.specs.Map.{Map, InMap, Is, FirstChild}
-use Rattle.cpumap.specs.Path.{topologyName}
-use Rattle.topology.specs.Rules.{MapRule, Allowed}
-use Rattle.cpumap.specs.Number.{kindNumber}
-use Rattle.topology.specs.Check.{allowedUnder, allowedInMap, kindFault, numberFault, shapeFault, mapRecordFault}
+use Rattle.cpumap.specs.facts.Map.{Map, InMap, OfKind, FirstChild}
+use Rattle.cpumap.specs.answers.Path.{topologyName}
+use Rattle.topology.specs.facts.Rules.{MapRule, Allowed}
+use Rattle.cpumap.specs.answers.Number.{kindNumber}
+use Rattle.topology.specs.answers.Check.{allowedUnder, allowedInMap, kindFault, numberFault, shapeFault, mapRecordFault}
 use Rattle.cpumap.proofs.NameFacts.{Says, topology-says, topology-is, topology-cases, is-unique, kinds-apart, kind-number-same, kind-number-of, kind-number-some, map-nameless}
 use Rattle.cpumap.proofs.MapMeans.{map-unique, in-map-below}
 use Rattle.cpumap.proofs.WithinMeans.{child-has, within-above, above-within}
 
 module _ (b : Board) (p : ℕ) where
   -- kinds allowed under the map
-  in-map-allowed : Map b p → (kind : Kind) (n : ℕ) → Decides (allowedInMap (answered kind n)) (Allowed b p kind)
+  in-map-allowed : Map b p → (kind : Kind) (n : ℕ) → Decides (allowedInMap (namedAs kind n)) (Allowed b p kind)
   in-map-allowed map Kind.socket n = (λ _. Allowed.mapSocket map, λ _. refl)
   in-map-allowed map Kind.cluster n = (λ _. Allowed.mapCluster map, λ _. refl)
   in-map-allowed map Kind.core n = (λ e. true-false e refl, λ a. absurd (none a))
@@ -49,7 +49,7 @@ module _ (b : Board) (p : ℕ) where
       none (Allowed.coreThread is) = map-nameless b p (map .name) Kind.core is
 
   -- kinds allowed under another record
-  under-allowed : {x : TopologyName} → Says b p x → (kind : Kind) (n : ℕ) → allowedUnder x (answered kind n) ≡ true → Allowed b p kind
+  under-allowed : {x : TopologyName} → Says b p x → (kind : Kind) (n : ℕ) → allowedUnder x (namedAs kind n) ≡ true → Allowed b p kind
   under-allowed (Says.socket s q) Kind.socket n e = true-false e refl
   under-allowed (Says.socket s q) Kind.cluster n e = Allowed.socketCluster (s, q)
   under-allowed (Says.socket s q) Kind.core n e = true-false e refl
@@ -67,9 +67,9 @@ module _ (b : Board) (p : ℕ) where
 
   -- under a socket or a core one kind alone is allowed
   abbrev Mixing : Type 0
-  Mixing = Map b p ⊎ Is b Kind.cluster p
+  Mixing = Map b p ⊎ OfKind b Kind.cluster p
 
-  under-socket : {j : Kind} → Is b Kind.socket p → Allowed b p j → (Kind.cluster ≡ j) ⊎ Mixing
+  under-socket : {j : Kind} → OfKind b Kind.socket p → Allowed b p j → (Kind.cluster ≡ j) ⊎ Mixing
   under-socket is (Allowed.mapSocket map) = inr (inl map)
   under-socket is (Allowed.mapCluster map) = inr (inl map)
   under-socket is (Allowed.socketCluster _) = inl refl
@@ -77,7 +77,7 @@ module _ (b : Board) (p : ℕ) where
   under-socket is (Allowed.clusterCore other) = inr (inr other)
   under-socket is (Allowed.coreThread other) = absurd (kinds-apart b p Kind.socket Kind.core (λ z. omega arith) is other)
 
-  under-core : {j : Kind} → Is b Kind.core p → Allowed b p j → (Kind.thread ≡ j) ⊎ Mixing
+  under-core : {j : Kind} → OfKind b Kind.core p → Allowed b p j → (Kind.thread ≡ j) ⊎ Mixing
   under-core is (Allowed.mapSocket map) = inr (inl map)
   under-core is (Allowed.mapCluster map) = inr (inl map)
   under-core is (Allowed.socketCluster other) = absurd (kinds-apart b p Kind.core Kind.socket (λ z. omega arith) is other)
@@ -105,7 +105,7 @@ module _ (b : Board) (well : WellFormed b) (m : ℕ) (map : Map b m) where
   abbrev isAllowed : ℕ → TopologyName → Bool
   isAllowed p x = cond (eqb p m) (allowedInMap x) (allowedUnder (name p) x)
 
-  allowed-under : (p : ℕ) (kind : Kind) (n : ℕ) → p < nodeCount (b .nodes) → (Map b p → ⊥) → Allowed b p kind → allowedUnder (name p) (answered kind n) ≡ true
+  allowed-under : (p : ℕ) (kind : Kind) (n : ℕ) → p < nodeCount (b .nodes) → (Map b p → ⊥) → Allowed b p kind → allowedUnder (name p) (namedAs kind n) ≡ true
   allowed-under p kind n lt none (Allowed.mapSocket s) = absurd (none s)
   allowed-under p kind n lt none (Allowed.mapCluster s) = absurd (none s)
   allowed-under p kind n lt none (Allowed.socketCluster is) = rw (topology-is b well p Kind.socket (is .0) lt .1 (is .1))
@@ -113,10 +113,10 @@ module _ (b : Board) (well : WellFormed b) (m : ℕ) (map : Map b m) where
   allowed-under p kind n lt none (Allowed.clusterCore is) = rw (topology-is b well p Kind.cluster (is .0) lt .1 (is .1))
   allowed-under p kind n lt none (Allowed.coreThread is) = rw (topology-is b well p Kind.core (is .0) lt .1 (is .1))
 
-  pub allowed-test : (p : ℕ) (kind : Kind) (n : ℕ) → p < nodeCount (b .nodes) → Decides (isAllowed p (answered kind n)) (Allowed b p kind)
+  pub allowed-test : (p : ℕ) (kind : Kind) (n : ℕ) → p < nodeCount (b .nodes) → Decides (isAllowed p (namedAs kind n)) (Allowed b p kind)
   allowed-test p kind n lt = go (decide-cases (eq-decides p m))
     where
-      go : {t : Bool} → Decided (p ≡ m) t → Decides (cond t (allowedInMap (answered kind n)) (allowedUnder (name p) (answered kind n))) (Allowed b p kind)
+      go : {t : Bool} → Decided (p ≡ m) t → Decides (cond t (allowedInMap (namedAs kind n)) (allowedUnder (name p) (namedAs kind n))) (Allowed b p kind)
       go (Decided.holds e) = in-map-allowed b p (rw e map) kind n
       go (Decided.fails ne) = (
         under-allowed b p (topology-says b well p lt) kind n,
@@ -127,20 +127,20 @@ module _ (b : Board) (well : WellFormed b) (m : ℕ) (map : Map b m) where
   pub fault-named :
       (i : ℕ) (kind : Kind) (n : ℕ) →
       let p = parentWord (b .nodes) i in
-      mapRecordFault (b .nodes) (b .pool) m i (answered kind n)
-      ≡ orNumber (kindFault (b .nodes) (b .pool) m p (answered kind n)) (orNumber (numberFault (b .nodes) p i (answered kind n)) (shapeFault (b .nodes) (b .pool) p i (answered kind n)))
+      mapRecordFault (b .nodes) (b .pool) m i (namedAs kind n)
+      ≡ orNumber (kindFault (b .nodes) (b .pool) m p (namedAs kind n)) (orNumber (numberFault (b .nodes) p i (namedAs kind n)) (shapeFault (b .nodes) (b .pool) p i (namedAs kind n)))
   unfolding mapRecordFault
-  fault-named i kind n = rw (ne-eqb (kindNumber (answered kind n)) 0 (kind-number-some kind n))
+  fault-named i kind n = rw (ne-eqb (kindNumber (namedAs kind n)) 0 (kind-number-some kind n))
 
   -- a sound record has a kind that is allowed under its parent
   abbrev Placed : ℕ → Type 0
   Placed i = (kind : Kind) × (n : ℕ) × Named (nodeName b i) kind n × Allowed b (parentWord (b .nodes) i) kind
 
-  kind-sound : (p : ℕ) (kind : Kind) (n : ℕ) → p < nodeCount (b .nodes) → kindFault (b .nodes) (b .pool) m p (answered kind n) ≡ 0 → Allowed b p kind
+  kind-sound : (p : ℕ) (kind : Kind) (n : ℕ) → p < nodeCount (b .nodes) → kindFault (b .nodes) (b .pool) m p (namedAs kind n) ≡ 0 → Allowed b p kind
   unfolding kindFault
   kind-sound p kind n lt = go (decide-cases (allowed-test p kind n lt))
     where
-      go : {t : Bool} → Decided (Allowed b p kind) t → _≡_ {A = ℕ} (cond t (cond (eqb (kindNumber (answered kind n)) (kindNumber (name (p + 1)))) 0 20) 20) 0 → Allowed b p kind
+      go : {t : Bool} → Decided (Allowed b p kind) t → _≡_ {A = ℕ} (cond t (cond (eqb (kindNumber (namedAs kind n)) (kindNumber (name (p + 1)))) 0 20) 20) 0 → Allowed b p kind
       go (Decided.holds a) z = a
       go (Decided.fails _) z = absurd (omega arith)
 
@@ -150,10 +150,10 @@ module _ (b : Board) (well : WellFormed b) (m : ℕ) (map : Map b m) where
       other : mapRecordFault (b .nodes) (b .pool) m i Other ≡ 0 → ⊥
       other = unfold mapRecordFault in λ e. omega arith
 
-      unnamed : (name i ≡ Other) × ((kind : Kind) → Is b kind i → ⊥) → Placed i
+      unnamed : (name i ≡ Other) × ((kind : Kind) → OfKind b kind i → ⊥) → Placed i
       unnamed t = absurd (other (rw (t .0) at z))
 
-      named : (kind : Kind) × (n : ℕ) × (name i ≡ answered kind n) × Named (nodeName b i) kind n → Placed i
+      named : (kind : Kind) × (n : ℕ) × (name i ≡ namedAs kind n) × Named (nodeName b i) kind n → Placed i
       named t =
           let faults = or-number-zero _ _ (sym (fault-named i (t .0) (t .1)) ∙ (rw (t .2) at z)) in
           (t .0, t .1, t .3, kind-sound (parentWord (b .nodes) i) (t .0) (t .1) (omega (arith, c .earlier, c .inside)) (faults .0))
@@ -189,10 +189,10 @@ module _ (b : Board) (well : WellFormed b) (m : ℕ) (map : Map b m) where
 
     module _ (kind : Kind) (n : ℕ) (named : Named (nodeName b i) kind n) (allowed : Allowed b over kind) where
       abbrev SameKind : Type 0
-      SameKind = kindNumber (answered kind n) ≡ kindNumber (name (over + 1))
+      SameKind = kindNumber (namedAs kind n) ≡ kindNumber (name (over + 1))
 
       -- the kind of the first child
-      first-kind : (j : Kind) (k : ℕ) → Named (nodeName b (suc over)) j k → kindNumber (name (over + 1)) ≡ kindNumber (answered j k)
+      first-kind : (j : Kind) (k : ℕ) → Named (nodeName b (suc over)) j k → kindNumber (name (over + 1)) ≡ kindNumber (namedAs j k)
       first-kind j k q = rw (add-one over, topology-is b well (suc over) j k (next .inside) .1 q)
 
       mixed-broken : (SameKind → ⊥) → MapRule b 20 i
@@ -201,26 +201,26 @@ module _ (b : Board) (well : WellFormed b) (m : ℕ) (map : Map b m) where
           other : (j : Kind) × (k : ℕ) × Named (nodeName b (suc over)) j k × Allowed b over j → MapRule b 20 i
           other t =
               ⊎-elim (λ e. absurd (apart e))
-              (λ mixing. MapRule.mixedKinds i over (suc over) kind (t .0) in-map mixing child first (n, named) (t .1, t .2) apart)
+              (λ mixing. MapRule.cpuMapKindMixed i over (suc over) kind (t .0) in-map mixing child first (n, named) (t .1, t .2) apart)
               (allowed-mix b over allowed (t .3))
             where
               apart : kind ≡ t .0 → ⊥
-              apart e = ne (kind-number-of kind n (t .1) ∙ ap (λ (j : Kind). kindNumber (answered j (t .1))) e ∙ sym (first-kind (t .0) (t .1) (t .2)))
+              apart e = ne (kind-number-of kind n (t .1) ∙ ap (λ (j : Kind). kindNumber (namedAs j (t .1))) e ∙ sym (first-kind (t .0) (t .1) (t .2)))
 
       mixed-sound : SameKind → MapRule b 20 i → ⊥
-      mixed-sound same (MapRule.wrongKind _ p k _ c is none) = none (rw (child-unique child c, is-unique b i kind k (n, named) is) at allowed)
-      mixed-sound same (MapRule.mixedKinds _ p f k j _ _ c fc is fis ne) =
+      mixed-sound same (MapRule.cpuMapKind _ p k _ c is none) = none (rw (child-unique child c, is-unique b i kind k (n, named) is) at allowed)
+      mixed-sound same (MapRule.cpuMapKindMixed _ p f k j _ _ c fc is fis ne) =
           let le = fc .lowest (suc over) (rw (child-unique c child) next) in
           let lt = fc .child .earlier in
           let e = child-unique c child in
           let place : f ≡ suc over = omega arith in
           ne (is-unique b i k kind is (n, named) ∙ kind-number-same kind j n (fis .0) (same ∙ first-kind j (fis .0) (rw place at (fis .1))))
 
-    pub kind-tested : (kind : Kind) (n : ℕ) → Named (nodeName b i) kind n → Tested 20 (MapRule b 20 i) (kindFault (b .nodes) (b .pool) m over (answered kind n))
+    pub kind-tested : (kind : Kind) (n : ℕ) → Named (nodeName b i) kind n → Tested 20 (MapRule b 20 i) (kindFault (b .nodes) (b .pool) m over (namedAs kind n))
     unfolding kindFault
     kind-tested kind n named = go (decide-cases (allowed-test over kind n over-inside))
       where
-        go : {t : Bool} → Decided (Allowed b over kind) t → Tested 20 (MapRule b 20 i) (cond t (cond (eqb (kindNumber (answered kind n)) (kindNumber (name (over + 1)))) 0 20) 20)
+        go : {t : Bool} → Decided (Allowed b over kind) t → Tested 20 (MapRule b 20 i) (cond t (cond (eqb (kindNumber (namedAs kind n)) (kindNumber (name (over + 1)))) 0 20) 20)
         go (Decided.holds allowed) =
-            tested-unless (mixed-sound kind n named allowed) (mixed-broken kind n named allowed) (eq-decides (kindNumber (answered kind n)) (kindNumber (name (over + 1))))
-        go (Decided.fails n-a) = Tested.broken (MapRule.wrongKind i over kind in-map child (n, named) n-a)
+            tested-unless (mixed-sound kind n named allowed) (mixed-broken kind n named allowed) (eq-decides (kindNumber (namedAs kind n)) (kindNumber (name (over + 1))))
+        go (Decided.fails n-a) = Tested.broken (MapRule.cpuMapKind i over kind in-map child (n, named) n-a)

@@ -8,13 +8,13 @@ use Rattle.laws.proofs.RuleStageLaws.{then-tells}
 use Rattle.laws.proofs.VerdictLaws.{Verdict, held, number-stage, once-tells}
 use Rattle.laws.proofs.DecideLaws.{eq-decides, lt-decides}
 use Rattle.laws.proofs.TestedLaws.{Decided, decide-cases}
-use Rattle.tables.specs.Board.{Board, nodeCount, nodeName}
-use Rattle.wellformed.specs.Order.{stage}
-use Rattle.wellformed.specs.Rules.{WellFormed}
-use Rattle.cpumap.specs.Words.{mapWord}
-use Rattle.cpumap.specs.Map.{Map}
-use Rattle.topology.specs.Rules.{MapRule}
-use Rattle.cpumap.specs.Find.{mapOf, noMapFault, secondMapFault, mapFault}
+use Rattle.tables.specs.facts.Board.{Board, nodeCount, nodeName}
+use Rattle.wellformed.specs.facts.Order.{stage}
+use Rattle.wellformed.specs.facts.Rules.{WellFormed}
+use Rattle.tables.specs.facts.Binding.{mapWord}
+use Rattle.cpumap.specs.facts.Map.{Map}
+use Rattle.topology.specs.facts.Rules.{MapRule}
+use Rattle.cpumap.specs.answers.Find.{mapOf, noMapFault, secondMapFault, mapFault}
 use Rattle.topology.proofs.RuleCases.{Second, Staged, staged}
 use Rattle.cpumap.proofs.MapMeans.{map-name-test, map-of, map-found, map-is}
 
@@ -31,7 +31,7 @@ module _ (b : Board) (well : WellFormed b) where
     where
       go : {t : Bool} → Decided (found < count) t → Verdict (MapRule b) 15 0 (Map b found) (cond t 0 15)
       go (Decided.holds lt) = Verdict.sound (map-of b well lt)
-      go (Decided.fails n) = Verdict.broken (MapRule.noMap (λ m s. n (map-found b well m s)))
+      go (Decided.fails n) = Verdict.broken (MapRule.cpuMapMissing (λ m s. n (map-found b well m s)))
 
   second-map-told : Map b found → (i : ℕ) → i < count → Verdict (MapRule b) 16 i (Second b i → ⊥) (secondMapFault (b .nodes) (b .pool) i)
   unfolding secondMapFault
@@ -43,7 +43,7 @@ module _ (b : Board) (well : WellFormed b) where
           Decided (i ≡ found) s →
           Verdict (MapRule b) 16 i (Second b i → ⊥) (cond t (cond s 0 16) 0)
       go (Decided.holds name) (Decided.holds e) = Verdict.sound (λ w. w .4 (e ∙ sym (map-is b well (w .0) (w .1))))
-      go (Decided.holds name) (Decided.fails ne) = Verdict.broken (MapRule.secondMap found i is-map lt name ne)
+      go (Decided.holds name) (Decided.fails ne) = Verdict.broken (MapRule.cpuMapDuplicate found i is-map lt name ne)
       go (Decided.fails n) e = Verdict.sound (λ w. n (w .3))
 
   -- what their stages refute

@@ -8,13 +8,13 @@ use lib.Dec.{eqb}
 use Rattle.laws.proofs.LeastLaws.{Least, least-none, least-only}
 use Rattle.laws.proofs.DecideLaws.{eq-decides}
 use Rattle.laws.proofs.TestedLaws.{tested-unless}
-use Rattle.tables.specs.Board.{Board, nodeCount}
-use Rattle.wellformed.specs.Rules.{WellFormed}
-use Rattle.cpumap.specs.Map.{Map, InMap, Outside}
-use Rattle.cpumap.specs.Path.{topologyName}
-use Rattle.topology.specs.Rules.{MapRule}
-use Rattle.cpumap.specs.Number.{kindNumber}
-use Rattle.topology.specs.Check.{groupFault}
+use Rattle.tables.specs.facts.Board.{Board, nodeCount}
+use Rattle.wellformed.specs.facts.Rules.{WellFormed}
+use Rattle.cpumap.specs.facts.Map.{Map, InMap, Outside}
+use Rattle.cpumap.specs.answers.Path.{topologyName}
+use Rattle.topology.specs.facts.Rules.{MapRule}
+use Rattle.cpumap.specs.answers.Number.{kindNumber}
+use Rattle.topology.specs.answers.Check.{groupFault}
 use Rattle.cpumap.proofs.NameFacts.{kind-number-zero, topology-other, topology-cases}
 use Rattle.topology.proofs.RuleCases.{Place, staged, tree-stage}
 use Rattle.cpumap.proofs.MapMeans.{map-unique, map-not-below, in-map-later, outside-not-map, outside-not-below}
@@ -46,7 +46,7 @@ module _ (b : Board) (well : WellFormed b) (m : ℕ) (map : Map b m) where
   -- the map can break rule 23 alone
   pub map-told : Least (λ n. MapRule b n m) 18 25 (groupFault (b .nodes) m)
   map-told =
-      least-only (λ n. MapRule b n m) 23 18 25 (omega arith) (omega arith) (omega arith) (λ n r low high. go (place r low high)) (group-tested b well m (MapRule.emptyMap m map))
+      least-only (λ n. MapRule b n m) 23 18 25 (omega arith) (omega arith) (omega arith) (λ n r low high. go (place r low high)) (group-tested b well m (MapRule.cpuMapEmpty m map))
     where
       go : {n : ℕ} → Place b n m → n ≡ 23
       go (Place.outside _ _ _ _ out _) = absurd (outside-not-map b m map m out refl)
@@ -65,11 +65,11 @@ module _ (b : Board) (well : WellFormed b) (m : ℕ) (map : Map b m) where
       go (Place.inMap _ _ t) = absurd (outside-not-below b m map i out t)
 
       keeps : kindNumber (topologyName (b .nodes) (b .pool) i) ≡ 0 → MapRule b 18 i → ⊥
-      keeps z (MapRule.strayName _ kind _ _ _ is) = topology-other b well i lt .0 (kind-number-zero _ z) kind is
+      keeps z (MapRule.topologyOutsideMap _ kind _ _ _ is) = topology-other b well i lt .0 (kind-number-zero _ z) kind is
 
       breaks : (kindNumber (topologyName (b .nodes) (b .pool) i) ≡ 0 → ⊥) → MapRule b 18 i
       breaks ne =
           ⊎-elim
-          (λ t. MapRule.strayName i (t .0) pos lt out (t .1, t .3))
+          (λ t. MapRule.topologyOutsideMap i (t .0) pos lt out (t .1, t .3))
           (λ t. absurd (ne (rw (t .0))))
           (topology-cases b well i lt)

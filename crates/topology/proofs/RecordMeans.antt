@@ -5,9 +5,9 @@ use mathlib.Core.List.{List}
 use Prim.Native.Nat.{ℕ, _≤_, _<_}
 use native.Mathlib.Omega.{arith}
 use lib.ListN.{length}
-use Rattle.laws.specs.Fault.{orNumber}
-use Rattle.laws.specs.Listing.{Listing}
-use Rattle.laws.specs.Search.{countBelow, listBelow}
+use Rattle.laws.specs.answers.Fault.{orNumber}
+use Rattle.laws.specs.facts.Listing.{Listing}
+use Rattle.laws.specs.answers.Search.{countBelow, listBelow}
 use Rattle.laws.proofs.SearchLaws.{lt-or-le, list-length}
 use Rattle.laws.proofs.ListingLaws.{listing-unique}
 use Rattle.laws.proofs.LeastLaws.{Tested, Least, least-low, least-one, least-then}
@@ -15,20 +15,20 @@ use Rattle.laws.proofs.DecideLaws.{eq-decides, lt-decides}
 use Rattle.laws.proofs.TestedLaws.{tested-unless}
 use Rattle.names.specs.declared.TopologyName.{TopologyName}
 use Rattle.names.specs.declared.TopologyName.the-variants.{Other}
-use Rattle.names.specs.Kind.{Kind, Named}
-use Rattle.names.specs.Name.{answered}
+use Rattle.names.specs.facts.Kind.{Kind, Named}
+use Rattle.names.specs.answers.Name.{namedAs}
 use Rattle.names.proofs.NameMeans.{named-unique}
-use Rattle.tables.specs.Board.{Board, nodeName, parentWord}
-use Rattle.tables.specs.Tree.{Child}
-use Rattle.wellformed.specs.Rules.{WellFormed}
+use Rattle.tables.specs.facts.Board.{Board, nodeName, parentWord}
+use Rattle.tables.specs.facts.Tree.{Child}
+use Rattle.wellformed.specs.facts.Rules.{WellFormed}
 use Rattle.tables.proofs.DepthLaws.{child-unique}
 use Rattle.wellformed.proofs.WellFormedLaws.{wf-depth}
-use Rattle.tables.specs.Tree.{isChild}
-use Rattle.cpumap.specs.Map.{Map, InMap, Is, Childless, ClusterAbove}
-use Rattle.cpumap.specs.Path.{topologyName, clusterPath}
-use Rattle.topology.specs.Rules.{MapRule}
-use Rattle.cpumap.specs.Number.{kindNumber, topologyNumber}
-use Rattle.topology.specs.Check.{groupFault, depthFault, numberFault, shapeFault, mapRecordFault}
+use Rattle.tables.specs.answers.Tree.{isChild}
+use Rattle.cpumap.specs.facts.Map.{Map, InMap, OfKind, Childless, ClusterAbove}
+use Rattle.cpumap.specs.answers.Path.{topologyName, clusterPath}
+use Rattle.topology.specs.facts.Rules.{MapRule}
+use Rattle.cpumap.specs.answers.Number.{kindNumber, topologyNumber}
+use Rattle.topology.specs.answers.Check.{groupFault, depthFault, numberFault, shapeFault, mapRecordFault}
 use Rattle.topology.proofs.ChildMeans.{earlier-children, earlier-count, has-child-test}
 use Rattle.cpumap.proofs.NameFacts.{topology-cases, kinds-apart, number-answered}
 use Rattle.topology.proofs.RuleCases.{deep-cluster, childless}
@@ -47,7 +47,7 @@ group-tested b well i breaks =
 module _
     (b : Board)
     (well : WellFormed b)
-    (nameless : (kind : Kind) → Is b kind 0 → ⊥)
+    (nameless : (kind : Kind) → OfKind b kind 0 → ⊥)
     (m : ℕ)
     (map : Map b m)
     (i : ℕ)
@@ -66,21 +66,21 @@ module _
     child = parent-of (in-map-below b m map i in-map)
 
     -- rule 21
-    number-tested : (kind : Kind) (n : ℕ) → Named (nodeName b i) kind n → Tested 21 (Rule 21) (numberFault (b .nodes) over i (answered kind n))
+    number-tested : (kind : Kind) (n : ℕ) → Named (nodeName b i) kind n → Tested 21 (Rule 21) (numberFault (b .nodes) over i (namedAs kind n))
     unfolding numberFault
-    number-tested kind n named = tested-unless keeps breaks (eq-decides (topologyNumber (answered kind n)) count)
+    number-tested kind n named = tested-unless keeps breaks (eq-decides (topologyNumber (namedAs kind n)) count)
       where
         count : ℕ
         count = countBelow (isChild (b .nodes) over) i
 
-        keeps : topologyNumber (answered kind n) ≡ count → Rule 21 → ⊥
-        keeps e (MapRule.wrongNumber _ p k j earlier _ c name l ne) =
+        keeps : topologyNumber (namedAs kind n) ≡ count → Rule 21 → ⊥
+        keeps e (MapRule.cpuMapOrder _ p k j earlier _ c name l ne) =
             let size : count ≡ length earlier = earlier-count (b .nodes) over i earlier (rw (child-unique c child) at l) in
             ne (named-unique name named .1 ∙ sym (number-answered kind n) ∙ e ∙ size)
 
-        breaks : (topologyNumber (answered kind n) ≡ count → ⊥) → Rule 21
+        breaks : (topologyNumber (namedAs kind n) ≡ count → ⊥) → Rule 21
         breaks ne =
-            MapRule.wrongNumber i over n kind (listBelow (isChild (b .nodes) over) i) in-map child named (earlier-children (b .nodes) over i)
+            MapRule.cpuMapOrder i over n kind (listBelow (isChild (b .nodes) over) i) in-map child named (earlier-children (b .nodes) over i)
             (λ e. ne (number-answered kind n ∙ e ∙ list-length (isChild (b .nodes) over) i))
 
     -- rule 22, of a cluster alone
@@ -96,39 +96,39 @@ module _
     listing : Listing (ClusterAbove b i) above
     listing = clusters-listing b well nameless i
 
-    depth-tested : Is b Kind.cluster i → Tested 22 (Rule 22) (depthFault (b .nodes) (b .pool) over)
+    depth-tested : OfKind b Kind.cluster i → Tested 22 (Rule 22) (depthFault (b .nodes) (b .pool) over)
     unfolding depthFault
     depth-tested is = tested-unless deep breaks (lt-decides depth 4)
       where
         deep : depth < 4 → Rule 22 → ⊥
-        deep lt (MapRule.deepCluster _ list _ _ l many) = omega (arith, few .0 lt, rw (listing-unique list above l listing) at many)
+        deep lt (MapRule.cpuMapDepth _ list _ _ l many) = omega (arith, few .0 lt, rw (listing-unique list above l listing) at many)
 
         breaks : (depth < 4 → ⊥) → Rule 22
-        breaks n = MapRule.deepCluster i above in-map is listing (⊎-elim (λ lt. lt) (λ le. absurd (n (few .1 le))) (lt-or-le 3 (length above)))
+        breaks n = MapRule.cpuMapDepth i above in-map is listing (⊎-elim (λ lt. lt) (λ le. absurd (n (few .1 le))) (lt-or-le 3 (length above)))
 
-    not-deep : (Is b Kind.cluster i → ⊥) → Tested 22 (Rule 22) 0
+    not-deep : (OfKind b Kind.cluster i → ⊥) → Tested 22 (Rule 22) 0
     not-deep none = Tested.sound (λ r. none (deep-cluster r))
 
-    not-empty : (Is b Kind.socket i → ⊥) → (Is b Kind.cluster i → ⊥) → Tested 23 (Rule 23) 0
+    not-empty : (OfKind b Kind.socket i → ⊥) → (OfKind b Kind.cluster i → ⊥) → Tested 23 (Rule 23) 0
     not-empty no-socket no-cluster = Tested.sound (λ r. ⊎-elim is-map (⊎-elim no-socket no-cluster) (childless r .1))
       where
         is-map : Map b i → ⊥
         is-map s = map-not-below b i s in-map
 
-    has-name : (kind : Kind) → Is b kind i → Rule 19 → ⊥
-    has-name kind is (MapRule.noTopologyName _ _ none) = none kind is
+    has-name : (kind : Kind) → OfKind b kind i → Rule 19 → ⊥
+    has-name kind is (MapRule.cpuMapName _ _ none) = none kind is
 
     -- rules 22 and 23
     pair : {v w : ℕ} → Tested 22 (Rule 22) v → Tested 23 (Rule 23) w → Least Rule 22 23 (orNumber v w)
     pair {v} {w} s t = least-then Rule 22 22 23 v w (omega arith) (omega arith) (least-one Rule 22 (omega arith) s) (least-one Rule 23 (omega arith) t)
 
-    apart : (k j : Kind) (n : ℕ) → Named (nodeName b i) k n → (kindNumber (answered j 0) ≡ kindNumber (answered k 0) → ⊥) → Is b j i → ⊥
+    apart : (k j : Kind) (n : ℕ) → Named (nodeName b i) k n → (kindNumber (namedAs j 0) ≡ kindNumber (namedAs k 0) → ⊥) → OfKind b j i → ⊥
     apart k j n q ne t = kinds-apart b i j k ne t (n, q)
 
-    shape-least : (kind : Kind) (n : ℕ) → Named (nodeName b i) kind n → Least Rule 22 23 (shapeFault (b .nodes) (b .pool) over i (answered kind n))
+    shape-least : (kind : Kind) (n : ℕ) → Named (nodeName b i) kind n → Least Rule 22 23 (shapeFault (b .nodes) (b .pool) over i (namedAs kind n))
     shape-least Kind.socket n q =
-        pair (not-deep (apart Kind.socket Kind.cluster n q (λ z. omega arith))) (group-tested b well i (MapRule.emptySocket i in-map (n, q)))
-    shape-least Kind.cluster n q = pair (depth-tested (n, q)) (group-tested b well i (MapRule.emptyCluster i in-map (n, q)))
+        pair (not-deep (apart Kind.socket Kind.cluster n q (λ z. omega arith))) (group-tested b well i (MapRule.cpuMapEmptySocket i in-map (n, q)))
+    shape-least Kind.cluster n q = pair (depth-tested (n, q)) (group-tested b well i (MapRule.cpuMapEmptyCluster i in-map (n, q)))
     shape-least Kind.core n q =
         let no-cluster = apart Kind.core Kind.cluster n q (λ z. omega arith) in
         pair (not-deep no-cluster) (not-empty (apart Kind.core Kind.socket n q (λ z. omega arith)) no-cluster)
@@ -144,18 +144,18 @@ module _
       pub record-told : Least Rule 19 23 fault
       record-told = ⊎-elim named unnamed (topology-cases b well i (child .inside))
         where
-          other : ((kind : Kind) → Is b kind i → ⊥) → Least Rule 19 23 (mapRecordFault (b .nodes) (b .pool) m i Other)
-          other none = unfold mapRecordFault in least-low Rule 19 23 (omega arith) (omega arith) (MapRule.noTopologyName i in-map none)
+          other : ((kind : Kind) → OfKind b kind i → ⊥) → Least Rule 19 23 (mapRecordFault (b .nodes) (b .pool) m i Other)
+          other none = unfold mapRecordFault in least-low Rule 19 23 (omega arith) (omega arith) (MapRule.cpuMapName i in-map none)
 
-          unnamed : (name i ≡ Other) × ((kind : Kind) → Is b kind i → ⊥) → Least Rule 19 23 fault
+          unnamed : (name i ≡ Other) × ((kind : Kind) → OfKind b kind i → ⊥) → Least Rule 19 23 fault
           unnamed t = rw (t .0) (other (t .1))
 
-          faults : (kind : Kind) (n : ℕ) → Named (nodeName b i) kind n → Least Rule 19 23 (mapRecordFault (b .nodes) (b .pool) m i (answered kind n))
+          faults : (kind : Kind) (n : ℕ) → Named (nodeName b i) kind n → Least Rule 19 23 (mapRecordFault (b .nodes) (b .pool) m i (namedAs kind n))
           faults kind n q =
               rw (fault-named b well m map i kind n)
               (least-then Rule 19 19 23 0 _ (omega arith) (omega arith) (least-one Rule 19 (omega arith) (Tested.sound (has-name kind (n, q))))
               (least-then Rule 20 20 23 _ _ (omega arith) (omega arith) (least-one Rule 20 (omega arith) (kind-tested b well m map i in-map lower kind n q))
               (least-then Rule 21 21 23 _ _ (omega arith) (omega arith) (least-one Rule 21 (omega arith) (number-tested kind n q)) (shape-least kind n q))))
 
-          named : (kind : Kind) × (n : ℕ) × (name i ≡ answered kind n) × Named (nodeName b i) kind n → Least Rule 19 23 fault
+          named : (kind : Kind) × (n : ℕ) × (name i ≡ namedAs kind n) × Named (nodeName b i) kind n → Least Rule 19 23 fault
           named t = rw (t .2) (faults (t .0) (t .1) (t .3))

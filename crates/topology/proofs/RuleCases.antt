@@ -3,14 +3,14 @@ use mathlib.Core.Path.{_≡_, refl}
 use mathlib.Core.Logic.{_⊎_, inl, inr}
 use Prim.Native.Nat.{ℕ, _≤_, _<_}
 use native.Mathlib.Omega.{arith}
-use Rattle.names.specs.Kind.{Kind}
-use Rattle.tables.specs.Board.{Board, nodeCount, nodeName}
-use Rattle.wellformed.specs.Order.{stage}
-use Rattle.cpus.specs.Node.{Cpu}
-use Rattle.cpumap.specs.Words.{mapWord}
-use Rattle.cpumap.specs.Map.{Map, InMap, Outside, Is, Childless}
+use Rattle.names.specs.facts.Kind.{Kind}
+use Rattle.tables.specs.facts.Board.{Board, nodeCount, nodeName}
+use Rattle.wellformed.specs.facts.Order.{stage}
+use Rattle.cpus.specs.facts.Node.{Cpu}
+use Rattle.tables.specs.facts.Binding.{mapWord}
+use Rattle.cpumap.specs.facts.Map.{Map, InMap, Outside, OfKind, Childless}
 use Rattle.cpumap.proofs.MapMeans.{leaf-in-map, in-map-inside}
-use Rattle.topology.specs.Rules.{MapRule}
+use Rattle.topology.specs.facts.Rules.{MapRule}
 
 -- a record named `cpu-map` that is not the map
 abbrev pub Second : Board → ℕ → Type 0
@@ -18,7 +18,7 @@ Second b i = (m : ℕ) × Map b m × (i < nodeCount (b .nodes)) × (nodeName b i
 
 -- the records of which the stage of rules 18 to 25 speaks, and the numbers told of each
 pub data Place (b : Board) (n i : ℕ) : Type 0 where
-  outside : n ≡ 18 → (kind : Kind) → 0 < i → i < nodeCount (b .nodes) → Outside b i → Is b kind i → Place b n i
+  outside : n ≡ 18 → (kind : Kind) → 0 < i → i < nodeCount (b .nodes) → Outside b i → OfKind b kind i → Place b n i
   theMap : n ≡ 23 → Map b i → Place b n i
   inMap : 19 ≤ n → n ≤ 25 → InMap b i → Place b n i
 
@@ -34,20 +34,20 @@ module _ {b : Board} where
   below l h t = Staged.tree (Place.inMap l h t)
 
   pub staged : {n i : ℕ} → MapRule b n i → Staged b (stage n) n i
-  staged (MapRule.noMap none) = Staged.noMap none
-  staged (MapRule.secondMap m i map lt name ne) = Staged.secondMap (m, map, lt, name, ne)
-  staged (MapRule.strayName i kind pos lt out is) = Staged.tree (Place.outside refl kind pos lt out is)
-  staged (MapRule.noTopologyName i t _) = below (omega arith) (omega arith) t
-  staged (MapRule.wrongKind i _ _ t _ _ _) = below (omega arith) (omega arith) t
-  staged (MapRule.mixedKinds i _ _ _ _ t _ _ _ _ _ _) = below (omega arith) (omega arith) t
-  staged (MapRule.wrongNumber i _ _ _ _ t _ _ _ _) = below (omega arith) (omega arith) t
-  staged (MapRule.deepCluster i _ t _ _ _) = below (omega arith) (omega arith) t
-  staged (MapRule.emptyMap m map none) = Staged.tree (Place.theMap refl map)
-  staged (MapRule.emptySocket i t _ _) = below (omega arith) (omega arith) t
-  staged (MapRule.emptyCluster i t _ _) = below (omega arith) (omega arith) t
-  staged (MapRule.namesNone i leaf _) = below (omega arith) (omega arith) (leaf-in-map leaf)
-  staged (MapRule.namedTwice i _ _ leaf _ _ _ _) = below (omega arith) (omega arith) (leaf-in-map leaf)
-  staged (MapRule.unmapped c cpu _) = Staged.unmapped cpu
+  staged (MapRule.cpuMapMissing none) = Staged.noMap none
+  staged (MapRule.cpuMapDuplicate m i map lt name ne) = Staged.secondMap (m, map, lt, name, ne)
+  staged (MapRule.topologyOutsideMap i kind pos lt out is) = Staged.tree (Place.outside refl kind pos lt out is)
+  staged (MapRule.cpuMapName i t _) = below (omega arith) (omega arith) t
+  staged (MapRule.cpuMapKind i _ _ t _ _ _) = below (omega arith) (omega arith) t
+  staged (MapRule.cpuMapKindMixed i _ _ _ _ t _ _ _ _ _ _) = below (omega arith) (omega arith) t
+  staged (MapRule.cpuMapOrder i _ _ _ _ t _ _ _ _) = below (omega arith) (omega arith) t
+  staged (MapRule.cpuMapDepth i _ t _ _ _) = below (omega arith) (omega arith) t
+  staged (MapRule.cpuMapEmpty m map none) = Staged.tree (Place.theMap refl map)
+  staged (MapRule.cpuMapEmptySocket i t _ _) = below (omega arith) (omega arith) t
+  staged (MapRule.cpuMapEmptyCluster i t _ _) = below (omega arith) (omega arith) t
+  staged (MapRule.cpuMapPhandle i leaf _) = below (omega arith) (omega arith) (leaf-in-map leaf)
+  staged (MapRule.cpuMapCpuRepeated i _ _ leaf _ _ _ _) = below (omega arith) (omega arith) (leaf-in-map leaf)
+  staged (MapRule.cpuUnmapped c cpu _) = Staged.unmapped cpu
 
   -- their stages: those before that of rule 17, or those from that of rule 18 on
   pub map-staged : {s n i : ℕ} → Staged b s n i → ((stage 15 ≤ s) × (s < stage 17)) ⊎ ((stage 18 ≤ s) × (s < stage 27))
@@ -73,10 +73,10 @@ module _ {b : Board} where
   tree-stage (Staged.unmapped _) l h = absurd (omega arith)
 
   -- what rules 22 and 23 say of the record
-  pub deep-cluster : {i : ℕ} → MapRule b 22 i → Is b Kind.cluster i
-  deep-cluster (MapRule.deepCluster _ _ _ is _ _) = is
+  pub deep-cluster : {i : ℕ} → MapRule b 22 i → OfKind b Kind.cluster i
+  deep-cluster (MapRule.cpuMapDepth _ _ _ is _ _) = is
 
-  pub childless : {i : ℕ} → MapRule b 23 i → Childless b i × (Map b i ⊎ (Is b Kind.socket i ⊎ Is b Kind.cluster i))
-  childless (MapRule.emptyMap _ map none) = (none, inl map)
-  childless (MapRule.emptySocket _ _ is none) = (none, inr (inl is))
-  childless (MapRule.emptyCluster _ _ is none) = (none, inr (inr is))
+  pub childless : {i : ℕ} → MapRule b 23 i → Childless b i × (Map b i ⊎ (OfKind b Kind.socket i ⊎ OfKind b Kind.cluster i))
+  childless (MapRule.cpuMapEmpty _ map none) = (none, inl map)
+  childless (MapRule.cpuMapEmptySocket _ _ is none) = (none, inr (inl is))
+  childless (MapRule.cpuMapEmptyCluster _ _ is none) = (none, inr (inr is))

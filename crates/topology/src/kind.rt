@@ -1,15 +1,15 @@
 // Kinds of the map's records and which may stand under which: rule 20.
 use cpumap::kind_number;
 use cpumap::topology_name;
-use laws::BAD_KIND;
+use laws::rules;
 use names::TopologyName;
 ghost use mathlib.Core.Path.{_≡_};
 ghost use mathlib.Core.Bool.{cond};
 ghost use Prim.Native.Nat.{_<_};
 ghost use lib.Dec.{eqb};
-ghost use Rattle.tables.specs.Board.{nodeCount};
-ghost use Rattle.cpumap.specs.Path.{topologyName};
-ghost use Rattle.topology.specs.Check.{allowedUnder, allowedInMap, kindFault};
+ghost use Rattle.tables.specs.facts.Board.{nodeCount};
+ghost use Rattle.cpumap.specs.answers.Path.{topologyName};
+ghost use Rattle.topology.specs.answers.Check.{allowedUnder, allowedInMap, kindFault};
 
 // Whether a name may stand right under the map.
 fn allowed_in_map(name: TopologyName) -> bool
@@ -76,5 +76,5 @@ pub fn kind_fault(nodes: &[u32], pool: &[u8], map: usize, p: usize, name: Topolo
             return 0;
         }
     }
-    BAD_KIND
+    rules::CPU_MAP_KIND
 }

@@ -7,8 +7,7 @@ use crate::shape::number_fault;
 use crate::shape::shape_fault;
 use cpumap::kind_number;
 use cpumap::topology_name;
-use laws::BAD_MAP_NAME;
-use laws::NAME_OUTSIDE_MAP;
+use laws::rules;
 use names::TopologyName;
 use tables::is_below;
 use tables::node_word;
@@ -16,10 +15,10 @@ ghost use mathlib.Core.Path.{_≡_};
 ghost use mathlib.Core.Bool.{cond};
 ghost use Prim.Native.Nat.{_<_};
 ghost use lib.Dec.{eqb};
-ghost use Rattle.tables.specs.Board.{nodeCount, parentWord};
-ghost use Rattle.cpumap.specs.Path.{topologyName};
-ghost use Rattle.cpumap.specs.Number.{kindNumber};
-ghost use Rattle.topology.specs.Check.{isLeafName, mapRecordFault, mapRecordShape, recordShape};
+ghost use Rattle.tables.specs.facts.Board.{nodeCount, parentWord};
+ghost use Rattle.cpumap.specs.answers.Path.{topologyName};
+ghost use Rattle.cpumap.specs.answers.Number.{kindNumber};
+ghost use Rattle.topology.specs.answers.Check.{isLeafName, mapRecordFault, mapRecordShape, recordShape};
 
 // The smallest of 19 to 23 that record i, below the map and so named, breaks; or 0.
 fn map_record_fault(nodes: &[u32], pool: &[u8], map: usize, i: usize, name: TopologyName) -> u32
@@ -27,7 +26,7 @@ fn map_record_fault(nodes: &[u32], pool: &[u8], map: usize, i: usize, name: Topo
     ensures { λ r. ⌜ r ≡ mapRecordFault (now (nodes .entry)) (now (pool .entry)) map i name ⌝ }
 {
     if kind_number(name) == 0 {
-        return BAD_MAP_NAME;
+        return rules::CPU_MAP_NAME;
     }
     let p = node_word(nodes, i, 0);
     let number = kind_fault(nodes, pool, map, p, name);
@@ -79,13 +78,13 @@ fn map_record_shape(
 }
 
 // 18 where a record outside the map has a topology name, or 0.
-fn stray_fault(name: TopologyName) -> u32
+fn outside_fault(name: TopologyName) -> u32
     ensures { λ r. ⌜ r ≡ cond (eqb (kindNumber name) 0) 0 18 ⌝ }
 {
     if kind_number(name) == 0 {
         return 0;
     }
-    NAME_OUTSIDE_MAP
+    rules::TOPOLOGY_OUTSIDE_MAP
 }
 
 // What record i breaks of 18 to 23, and whether it is a leaf.
@@ -109,7 +108,7 @@ pub fn record_shape(nodes: &[u32], pool: &[u8], map: usize, i: usize) -> RecordS
         return map_record_shape(nodes, pool, map, i, name);
     }
     RecordShape {
-        number: stray_fault(name),
+        number: outside_fault(name),
         leaf: false,
     }
 }

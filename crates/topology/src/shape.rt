@@ -1,18 +1,15 @@
 // Numbers of siblings, depth of clusters and groups without children: rules 21 to 23.
 use cpumap::position_of;
 use cpumap::topology_number;
-use laws::BAD_MAP_NAME;
-use laws::BAD_NUMBER;
-use laws::NO_CHILDREN;
-use laws::TOO_DEEP;
+use laws::rules;
 use names::TopologyName;
 use tables::is_child;
 ghost use mathlib.Core.Path.{_≡_};
 ghost use Prim.Native.Nat.{_<_};
-ghost use Rattle.laws.specs.Fault.{orNumber};
-ghost use Rattle.laws.specs.Search.{countBelow};
-ghost use Rattle.tables.specs.Tree.{isChild};
-ghost use Rattle.topology.specs.Check.{hasChild, numberFault, groupFault, depthFault, shapeFault};
+ghost use Rattle.laws.specs.answers.Fault.{orNumber};
+ghost use Rattle.laws.specs.answers.Search.{countBelow};
+ghost use Rattle.tables.specs.answers.Tree.{isChild};
+ghost use Rattle.topology.specs.answers.Check.{hasChild, numberFault, groupFault, depthFault, shapeFault};
 
 // Whether the record after i is its child. In a depth-first table: whether i has children.
 pub fn has_child(nodes: &[u32], i: usize) -> bool
@@ -48,7 +45,7 @@ pub fn number_fault(nodes: &[u32], p: usize, i: usize, name: TopologyName) -> u3
     if topology_number(name) as usize == count_children(nodes, p, i) {
         return 0;
     }
-    BAD_NUMBER
+    rules::CPU_MAP_ORDER
 }
 
 // 23 where record i has no children, or 0.
@@ -58,7 +55,7 @@ pub fn group_fault(nodes: &[u32], i: usize) -> u32
     if has_child(nodes, i) {
         return 0;
     }
-    NO_CHILDREN
+    rules::CPU_MAP_EMPTY
 }
 
 // 22 where a cluster under record p has four clusters above it, or 0.
@@ -73,7 +70,7 @@ fn depth_fault(nodes: &[u32], pool: &[u8], p: usize) -> u32
     if above.clusters.depth < 4 {
         return 0;
     }
-    TOO_DEEP
+    rules::CPU_MAP_DEPTH
 }
 
 // What cluster i, a child of p, breaks of 22 and 23.
@@ -98,6 +95,6 @@ pub fn shape_fault(nodes: &[u32], pool: &[u8], p: usize, i: usize, name: Topolog
         TopologyName::Cluster(_) => cluster_fault(nodes, pool, p, i),
         TopologyName::Core(_) => 0,
         TopologyName::Thread(_) => 0,
-        TopologyName::Other => BAD_MAP_NAME,
+        TopologyName::Other => rules::CPU_MAP_NAME,
     }
 }

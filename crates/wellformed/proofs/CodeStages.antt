@@ -3,12 +3,12 @@ use mathlib.Core.Path.{_≡_, sym, ap, _∙_}
 use Prim.Native.Nat.{ℕ}
 use lib.ListN.{length}
 use Rattle.laws.specs.declared.Fault.{Fault}
-use Rattle.laws.specs.Fault.{told, orElse, firstFault, orNumber}
+use Rattle.laws.specs.answers.Fault.{told, orElse, firstFault, orNumber}
 use Rattle.laws.proofs.FaultLaws.{or-first, or-second}
 use Rattle.laws.proofs.OrElseLaws.{told-or, told-first, told-second}
-use Rattle.tables.specs.Board.{Board, nodeCount, propCount}
-use Rattle.records.specs.Check.{nodeFault, propertyFault}
-use Rattle.wellformed.specs.Check.{widthFault, nodeWordsFault, propWordsFault, poolFault, tableFault}
+use Rattle.tables.specs.facts.Board.{Board, nodeCount, propCount}
+use Rattle.records.specs.answers.Check.{nodeFault, propertyFault}
+use Rattle.wellformed.specs.answers.Check.{widthFault, nodeWordsFault, propWordsFault, poolFault, tableFault}
 
 module _ (b : Board) where
   abbrev shapeFault : ℕ

@@ -7,19 +7,19 @@ use native.Mathlib.Nat.{le-refl}
 use native.Mathlib.Omega.{arith}
 use lib.ListN.{length, getD, List·getD-eq-default}
 use Rattle.laws.specs.declared.Fault.{Fault}
-use Rattle.laws.specs.Fault.{told, firstFault}
+use Rattle.laws.specs.answers.Fault.{told, firstFault}
 use Rattle.laws.proofs.SearchLaws.{lt-or-le}
 use Rattle.laws.proofs.FaultLaws.{place-le}
 use Rattle.laws.proofs.FirstLaws.{NoneIn, Tells, stage-tells}
 use Rattle.laws.proofs.OrElseLaws.{told-number}
 use Rattle.laws.proofs.RuleStageLaws.{told-place, else-place, then-tells}
 use Rattle.laws.proofs.VerdictLaws.{Verdict}
-use Rattle.wellformed.specs.Limits.{maxProperties}
-use Rattle.tables.specs.Board.{Board, nodeCount, propCount}
-use Rattle.wellformed.specs.Order.{stage}
-use Rattle.wellformed.specs.Rules.{TableRule, WellFormed}
-use Rattle.records.specs.Check.{nodeFault, propertyFault}
-use Rattle.wellformed.specs.Check.{widthFault, nodeWordsFault, propWordsFault, poolFault, tableFault}
+use Rattle.laws.specs.facts.Limits.{maxProperties}
+use Rattle.tables.specs.facts.Board.{Board, nodeCount, propCount}
+use Rattle.wellformed.specs.facts.Order.{stage}
+use Rattle.wellformed.specs.facts.Rules.{TableRule, WellFormed}
+use Rattle.records.specs.answers.Check.{nodeFault, propertyFault}
+use Rattle.wellformed.specs.answers.Check.{widthFault, nodeWordsFault, propWordsFault, poolFault, tableFault}
 use Rattle.wellformed.proofs.SoundLaws.{Verdicts, width-told, nodes-told, props-told, pool-told, node-told, property-told}
 
 -- a rule that is broken at a place is told there, or one of its stage with a smaller number
@@ -85,22 +85,22 @@ module _ (b : Board) where
 
   -- every broken rule is seen at its place
   all-seen : {m q : ℕ} → TableRule b m q → (q < placesOf (stage m)) × Seen m (faultOf (stage m) q)
-  all-seen (TableRule.unknownWidth n m) = (omega arith, seen (omega arith) (⊎-elim n m) (width-told b))
-  all-seen (TableRule.partNode n) = (omega arith, seen (omega arith) (λ t. n (omega (arith, t .2))) (nodes-told b))
-  all-seen (TableRule.noNodes e) = (omega arith, seen (omega arith) (λ t. omega (arith, t .0)) (nodes-told b))
-  all-seen (TableRule.manyNodes l) = (omega arith, seen (omega arith) (λ t. omega (arith, t .1)) (nodes-told b))
-  all-seen (TableRule.partProperty n) = (omega arith, seen (omega arith) (λ t. n (omega (arith, t .1))) (props-told b))
-  all-seen (TableRule.manyProperties l) = (omega arith, seen (omega arith) (λ t. omega (arith, t .0)) (props-told b))
-  all-seen (TableRule.longPool l) = (omega arith, seen (omega arith) (λ t. omega arith) (pool-told b))
+  all-seen (TableRule.boardWidth n m) = (omega arith, seen (omega arith) (⊎-elim n m) (width-told b))
+  all-seen (TableRule.nodeTablePart n) = (omega arith, seen (omega arith) (λ t. n (omega (arith, t .2))) (nodes-told b))
+  all-seen (TableRule.nodeTableEmpty e) = (omega arith, seen (omega arith) (λ t. omega (arith, t .0)) (nodes-told b))
+  all-seen (TableRule.nodeTableMany l) = (omega arith, seen (omega arith) (λ t. omega (arith, t .1)) (nodes-told b))
+  all-seen (TableRule.propertyTablePart n) = (omega arith, seen (omega arith) (λ t. n (omega (arith, t .1))) (props-told b))
+  all-seen (TableRule.propertyTableMany l) = (omega arith, seen (omega arith) (λ t. omega (arith, t .0)) (props-told b))
+  all-seen (TableRule.poolSize l) = (omega arith, seen (omega arith) (λ t. omega arith) (pool-told b))
   all-seen (TableRule.nodeNameLength i lt h) = (lt, seen-first (omega arith) (λ t. ⊎-elim (λ e. omega arith) (λ l. omega arith) h) (node-told b i lt))
-  all-seen (TableRule.nodeNameOutside i lt h) = (lt, seen-first (omega arith) (λ t. h (t .inside)) (node-told b i lt))
-  all-seen (TableRule.rootParent lt h) = (lt, seen-second (omega arith) (omega arith) h (node-told b 0 lt))
-  all-seen (TableRule.notDepthFirst i lt h g) = (lt, seen-second (omega arith) (omega arith) (⊎-elim h g) (node-told b (suc i) lt))
+  all-seen (TableRule.nodeNameRange i lt h) = (lt, seen-first (omega arith) (λ t. h (t .inside)) (node-told b i lt))
+  all-seen (TableRule.nodeParentRoot lt h) = (lt, seen-second (omega arith) (omega arith) h (node-told b 0 lt))
+  all-seen (TableRule.nodeParentOrder i lt h g) = (lt, seen-second (omega arith) (omega arith) (⊎-elim h g) (node-told b (suc i) lt))
   all-seen (TableRule.propertyNode k lt l) = (lt, seen-first (omega arith) (λ t. omega arith) (property-told b k lt))
   all-seen (TableRule.propertyNameLength k lt h) = (lt, seen-first (omega arith) (λ t. ⊎-elim (λ e. omega arith) (λ l. omega arith) h) (property-told b k lt))
-  all-seen (TableRule.propertyNameOutside k lt h) = (lt, seen-first (omega arith) (λ t. h (t .name .inside)) (property-told b k lt))
-  all-seen (TableRule.valueOutside k lt h) = (lt, seen-first (omega arith) (λ t. h (t .value)) (property-told b k lt))
-  all-seen (TableRule.repeatedProperty j k l lt e n) = (lt, seen-second (omega arith) (omega arith) (λ t. t j l e n) (property-told b k lt))
+  all-seen (TableRule.propertyNameRange k lt h) = (lt, seen-first (omega arith) (λ t. h (t .name .inside)) (property-told b k lt))
+  all-seen (TableRule.propertyValueRange k lt h) = (lt, seen-first (omega arith) (λ t. h (t .value)) (property-told b k lt))
+  all-seen (TableRule.duplicateProperty j k l lt e n) = (lt, seen-second (omega arith) (omega arith) (λ t. t j l e n) (property-told b k lt))
 
   -- the rules of the tables are those of the stages before that of rule 9
   pub rule-staged : {m q : ℕ} → TableRule b m q → stage m < stage 9

@@ -8,18 +8,19 @@ use native.Mathlib.Omega.{arith}
 use lib.Dec.{ltb, leb, eqb}
 use lib.ListN.{length}
 use borrow.Author.Tests.{ltb-true, ltb-false, le-leb, leb-true, eq-eqb, eqb-true, eqb-false}
-use Rattle.laws.specs.Search.{anyBelow}
+use Rattle.laws.specs.answers.Search.{anyBelow}
 use Rattle.laws.proofs.SearchLaws.{any-at, any-place, true-false}
 use Rattle.laws.proofs.SameLaws.{same-refl, same-equal}
 use Rattle.laws.proofs.TestLaws.{both-true}
 use Rattle.laws.proofs.VerdictLaws.{Verdict}
-use Rattle.records.specs.Limits.{maxNodeName, maxPropertyName, noParent}
-use Rattle.wellformed.specs.Limits.{maxNodes, maxProperties, maxPool}
-use Rattle.tables.specs.Board.{Board, Inside, nodeCount, parentWord, nameOffset, nameLength, propCount, propNode, propName, keyOffset, keyLength, valueOffset, valueLength}
-use Rattle.tables.specs.Tree.{isBelow, Ancestor}
-use Rattle.wellformed.specs.Rules.{TableRule}
-use Rattle.records.specs.Check.{soundName, soundParent, nodeFault, soundWords, soundProperty, sameProperty, propertyFault}
-use Rattle.wellformed.specs.Check.{widthFault, nodeWordsFault, propWordsFault, poolFault}
+use Rattle.laws.specs.facts.Limits.{maxNodeName, maxPropertyName, noParent, maxNodes, maxProperties, maxPool}
+use Rattle.tables.specs.facts.Board.{Board, Inside, nodeCount, parentWord, nameOffset, nameLength, propCount, propNode, propName, keyOffset}
+use Rattle.tables.specs.facts.Board.{keyLength, valueOffset, valueLength}
+use Rattle.tables.specs.answers.Tree.{isBelow}
+use Rattle.tables.specs.facts.Tree.{Ancestor}
+use Rattle.wellformed.specs.facts.Rules.{TableRule}
+use Rattle.records.specs.answers.Check.{soundName, soundParent, nodeFault, soundWords, soundProperty, sameProperty, propertyFault}
+use Rattle.wellformed.specs.answers.Check.{widthFault, nodeWordsFault, propWordsFault, poolFault}
 use Rattle.tables.proofs.DepthLaws.{below-test, not-below-test}
 
 -- a test that is true where P holds and false where Q does
@@ -91,7 +92,7 @@ module _ (b : Board) where
           Verdict (TableRule b) 1 0 ((b .width ≡ 32) ⊎ (b .width ≡ 64)) (cond t 0 (cond u 0 1))
       go true e u f = Verdict.sound (inl (eqb-true (b .width) 32 e))
       go false e true f = Verdict.sound (inr (eqb-true (b .width) 64 f))
-      go false e false f = Verdict.broken (TableRule.unknownWidth (eqb-false (b .width) 32 e) (eqb-false (b .width) 64 f))
+      go false e false f = Verdict.broken (TableRule.boardWidth (eqb-false (b .width) 32 e) (eqb-false (b .width) 64 f))
 
   abbrev pub NodeWords : Type 0
   NodeWords = (1 ≤ nodeCount (b .nodes)) × (nodeCount (b .nodes) ≤ maxNodes) × (length (b .nodes) ≡ 3 * nodeCount (b .nodes))
@@ -110,9 +111,9 @@ module _ (b : Board) where
           (v : Bool) →
           ltb (3 * maxNodes) words ≡ v →
           Verdict (TableRule b) 2 0 NodeWords (cond t (cond u 2 (cond v 2 0)) 2)
-      go false e u f v g = Verdict.broken (TableRule.partNode (eqb-false (words % 3) 0 e))
-      go true e true f v g = let z = eqb-true words 0 f in Verdict.broken (TableRule.noNodes (omega arith))
-      go true e false f true g = let l = ltb-true (3 * maxNodes) words g in let z = eqb-true (words % 3) 0 e in Verdict.broken (TableRule.manyNodes (omega arith))
+      go false e u f v g = Verdict.broken (TableRule.nodeTablePart (eqb-false (words % 3) 0 e))
+      go true e true f v g = let z = eqb-true words 0 f in Verdict.broken (TableRule.nodeTableEmpty (omega arith))
+      go true e false f true g = let l = ltb-true (3 * maxNodes) words g in let z = eqb-true (words % 3) 0 e in Verdict.broken (TableRule.nodeTableMany (omega arith))
       go true e false f false g =
           let z = eqb-true (words % 3) 0 e in
           let ne = eqb-false words 0 f in
@@ -134,8 +135,8 @@ module _ (b : Board) where
           (v : Bool) →
           ltb (5 * maxProperties) words ≡ v →
           Verdict (TableRule b) 3 0 PropWords (cond t (cond v 3 0) 3)
-      go false e v g = Verdict.broken (TableRule.partProperty (eqb-false (words % 5) 0 e))
-      go true e true g = let l = ltb-true (5 * maxProperties) words g in let z = eqb-true (words % 5) 0 e in Verdict.broken (TableRule.manyProperties (omega arith))
+      go false e v g = Verdict.broken (TableRule.propertyTablePart (eqb-false (words % 5) 0 e))
+      go true e true g = let l = ltb-true (5 * maxProperties) words g in let z = eqb-true (words % 5) 0 e in Verdict.broken (TableRule.propertyTableMany (omega arith))
       go true e false g =
           let z = eqb-true (words % 5) 0 e in
           let l = ltb-false (5 * maxProperties) words g in
@@ -145,7 +146,7 @@ module _ (b : Board) where
   pool-told = go (ltb maxPool (length (b .pool))) refl
     where
       go : (t : Bool) → ltb maxPool (length (b .pool)) ≡ t → Verdict (TableRule b) 4 0 (length (b .pool) ≤ maxPool) (cond t 4 0)
-      go true e = Verdict.broken (TableRule.longPool (ltb-true maxPool (length (b .pool)) e))
+      go true e = Verdict.broken (TableRule.poolSize (ltb-true maxPool (length (b .pool)) e))
       go false e = Verdict.sound (ltb-false maxPool (length (b .pool)) e)
 
 -- Rules 5 and 6, of a node record.
@@ -159,7 +160,7 @@ module _ (b : Board) where
     where
       go : {t : Bool} → Decides (NodeName i) (BadName (b .pool) maxNodeName (nameOffset (b .nodes) i) (nameLength (b .nodes) i)) t → Decides (NodeName i) (TableRule b 5 i) t
       go (Decides.holds p) = Decides.holds p
-      go (Decides.fails h) = Decides.fails (⊎-elim (TableRule.nodeNameLength i lt) (TableRule.nodeNameOutside i lt) h)
+      go (Decides.fails h) = Decides.fails (⊎-elim (TableRule.nodeNameLength i lt) (TableRule.nodeNameRange i lt) h)
 
   -- record i keeps the depth-first rule
   abbrev pub NodeParent : ℕ → Type 0
@@ -172,7 +173,7 @@ module _ (b : Board) where
     where
       go : (t : Bool) → eqb (parentWord (b .nodes) 0) noParent ≡ t → Decides (NodeParent 0) (TableRule b 6 0) t
       go true e = Decides.holds (eqb-true (parentWord (b .nodes) 0) noParent e)
-      go false e = Decides.fails (TableRule.rootParent lt (eqb-false (parentWord (b .nodes) 0) noParent e))
+      go false e = Decides.fails (TableRule.nodeParentRoot lt (eqb-false (parentWord (b .nodes) 0) noParent e))
   parent-decides (suc i) lt = go (eqb parent i) refl (isBelow (b .nodes) i parent) refl
     where
       parent : ℕ
@@ -181,7 +182,7 @@ module _ (b : Board) where
       go : (t : Bool) → eqb parent i ≡ t → (u : Bool) → isBelow (b .nodes) i parent ≡ u → Decides (NodeParent (suc i)) (TableRule b 6 (suc i)) (cond t true u)
       go true e u f = Decides.holds (inl (eqb-true parent i e))
       go false e true f = Decides.holds (inr (below-test parent i .0 f))
-      go false e false f = Decides.fails (TableRule.notDepthFirst i lt (eqb-false parent i e) (not-below-test parent i .0 f))
+      go false e false f = Decides.fails (TableRule.nodeParentOrder i lt (eqb-false parent i e) (not-below-test parent i .0 f))
 
   pub node-told : (i : ℕ) → i < nodeCount (b .nodes) → Verdicts b 5 6 i (NodeName i) (NodeParent i) (nodeFault (b .nodes) (length (b .pool)) i)
   unfolding nodeFault
@@ -214,8 +215,8 @@ module _ (b : Board) where
           leb (valueOffset (b .props) k + valueLength (b .props) k) (length (b .pool)) ≡ v →
           Decides (SoundProperty k) (TableRule b 7 k) (cond t (cond u v false) false)
       go false e h v g = Decides.fails (TableRule.propertyNode k lt (ltb-false _ _ e))
-      go true e (Decides.fails h) v g = Decides.fails (⊎-elim (TableRule.propertyNameLength k lt) (TableRule.propertyNameOutside k lt) h)
-      go true e (Decides.holds p) false g = Decides.fails (TableRule.valueOutside k lt (λ h. true-false (le-leb _ _ h) g))
+      go true e (Decides.fails h) v g = Decides.fails (⊎-elim (TableRule.propertyNameLength k lt) (TableRule.propertyNameRange k lt) h)
+      go true e (Decides.holds p) false g = Decides.fails (TableRule.propertyValueRange k lt (λ h. true-false (le-leb _ _ h) g))
       go true e (Decides.holds p) true g = Decides.holds (record { node = ltb-true _ _ e; name = p; value = leb-true _ _ g })
 
   -- no earlier record has the node and the name of record k
@@ -242,7 +243,7 @@ module _ (b : Board) where
       go true e =
           let place = any-place test k e in
           let s = same-true k (place .0) (place .2) in
-          Decides.holds (TableRule.repeatedProperty (place .0) k (place .1) lt (s .0) (s .1))
+          Decides.holds (TableRule.duplicateProperty (place .0) k (place .1) lt (s .0) (s .1))
       go false e = Decides.fails (λ j l n m. true-false (any-at test j k l (true-same k j n m)) e)
 
   pub property-told : (k : ℕ) → k < propCount (b .props) → Verdicts b 7 8 k (SoundProperty k) (NoRepeat k) (propertyFault (nodeCount (b .nodes)) (b .props) (b .pool) k)

@@ -3,10 +3,10 @@ use mathlib.Core.Path.{_≡_}
 use mathlib.Core.List.{List}
 use Prim.Native.Nat.{ℕ, suc, _<_}
 use Rattle.laws.proofs.VerdictLaws.{held}
-use Rattle.records.specs.Limits.{maxNodeName}
-use Rattle.tables.specs.Board.{Board, nodeCount, nameOffset, nameLength, propCount, propNode}
-use Rattle.tables.specs.Property.{Property, HasValue}
-use Rattle.wellformed.specs.Rules.{WellFormed}
+use Rattle.laws.specs.facts.Limits.{maxNodeName}
+use Rattle.tables.specs.facts.Board.{Board, nodeCount, nameOffset, nameLength, propCount, propNode}
+use Rattle.tables.specs.facts.Property.{Property, HasValue}
+use Rattle.wellformed.specs.facts.Rules.{WellFormed}
 use Rattle.tables.proofs.DepthLaws.{DepthFirst}
 use Rattle.wellformed.proofs.UniqueLaws.{property-unique, value-unique}
 use Rattle.wellformed.proofs.SoundLaws.{Verdicts, Name, NodeWords, PropWords, SoundProperty, nodes-told, props-told, node-told, property-told}

@@ -1,2 +1,2 @@
 -- The worked cases of 01 that are proved about the definitions.
-pub mod Worked
+pub mod answers

@@ -1,16 +1,17 @@
 -- `read_tables` refuses what the survey refuses, then where there is no room, and else writes the rows. Assumes nothing.
-use Rattle.leaves.specs.Scan.{leavesOf, namedOf}
+use Rattle.leaves.specs.answers.Scan.{leavesOf, namedOf}
 use mathlib.Core.Path.{_≡_, sym, ap, _∙_}
 use mathlib.Core.List.{List}
 use Prim.Native.Nat.{ℕ, _≤_}
 use native.Mathlib.Omega.{arith}
 use lib.ListN.{length, replicate, length-map, length-replicate}
-use Rattle.affinity.specs.Mask.{maskOf}
-use Rattle.affinity.specs.Hash.{hashOfMask}
-use Rattle.tables.specs.Board.{Board, Typed, board}
-use Rattle.cpus.specs.Check.{cpuCount, cpuList, mpidrList}
+use Rattle.affinity.specs.answers.Mask.{maskOf}
+use Rattle.affinity.specs.answers.Hash.{hashOfMask}
+use Rattle.tables.specs.facts.Board.{Board, WordSized, board}
+use Rattle.cpus.specs.answers.Check.{cpuCount, cpuList, mpidrList}
 use Rattle.cpus.proofs.CpuMeans.{cpu-count}
-use Rattle.board.specs.Survey.{surveyFault, surveyOf, Lists}
+use Rattle.demands.specs.answers.Survey.{surveyFault}
+use Rattle.board.specs.steps.Survey.{surveyOf, Lists}
 use Rattle.board.proofs.FrontLaws.{front-fits, front-size, front-is}
 use Rattle.board.proofs.ReadLaws.{refuses-survey, none, counts, refuses-room, accepts}
 use Rattle.board.proofs.SurveyLaws.{survey-few}
@@ -28,8 +29,8 @@ theBoard c = let a = entry c .args in board (a .width) (a .nodes .now) (a .props
 abbrev rows : tie.After-survey → List ℕ
 rows c = entry c .args .rows .now
 
-typed : (c : tie.After-survey) → Typed (theBoard c)
-typed c =
+sized : (c : tie.After-survey) → WordSized (theBoard c)
+sized c =
     let known = c .before .before .before .before .before .before in
     record {
       node-words = λ i. omega (arith, known .before .before .shared-slice-known .given i);
@@ -52,13 +53,13 @@ module _ (c : tie.Else1) where
   is = call .survey .ensures .0
 
   clear : surveyFault b .number ≡ 0
-  clear = none (typed call) (rows call) is (c .if1 .left)
+  clear = none (sized call) (rows call) is (c .if1 .left)
 
   lists : Lists b (replicate 256 0) (replicate 256 0) (replicate 256 0) (replicate 256 0) (call .survey .last .1 .1 .1 .1 .0) (call .survey .last .1 .1 .1 .1 .1 .0) (call .survey .last .1 .1 .1 .1 .1 .1 .0) (call .survey .last .1 .1 .1 .1 .1 .1 .1 .0)
   lists = call .survey .ensures .1 clear
 
   cpus-are : call .survey .result .cpus ≡ cpuCount b
-  cpus-are = counts (typed call) (rows call) is (c .if1 .left) .0
+  cpus-are = counts (sized call) (rows call) is (c .if1 .left) .0
 
   cpu-size : call .survey .result .cpus ≡ length (cpuList b)
   cpu-size = cpus-are ∙ cpu-count b
@@ -67,7 +68,7 @@ module _ (c : tie.Else1) where
   mpidr-size = cpu-size ∙ sym (length-map (cpuList b) _)
 
   leaf-size : call .survey .result .leaves ≡ length (leavesOf b)
-  leaf-size = counts (typed call) (rows call) is (c .if1 .left) .1
+  leaf-size = counts (sized call) (rows call) is (c .if1 .left) .1
 
   named-size : call .survey .result .leaves ≡ length (namedOf b)
   named-size = leaf-size ∙ sym (length-map (leavesOf b) _)
@@ -93,7 +94,7 @@ refused-requires c κs = search needs
 returns : tie.Need-returns
 returns c =
     let call = c .before .before .before in
-    refuses-survey (typed call) (rows call) (call .survey .ensures .0) (c .before .if1 .taken) (c .refused .ensures)
+    refuses-survey (sized call) (rows call) (call .survey .ensures .0) (c .before .if1 .taken) (c .refused .ensures)
 
 refused-requires-2 : tie.Need-refused-requires-2
 refused-requires-2 c κs = search needs
@@ -101,7 +102,7 @@ refused-requires-2 c κs = search needs
 returns-2 : tie.Need-returns-2
 returns-2 c =
     let e = c .before .before in
-    refuses-room (typed (call e)) (rows (call e)) (is e) (e .if1 .left) (omega (arith, c .before .if2 .taken, cpus-are e)) (c .refused2 .ensures)
+    refuses-room (sized (call e)) (rows (call e)) (is e) (e .if1 .left) (omega (arith, c .before .if2 .taken, cpus-are e)) (c .refused2 .ensures)
 
 array-share-prefix-mpidrs : tie.Need-array-share-prefix-mpidrs
 array-share-prefix-mpidrs c = let e = c .before in front-fits _ _ (lists e .mpidrs-laid) (mpidr-size e) (few-mpidrs e)
@@ -149,7 +150,7 @@ returns-3 c =
     let leaves = front-is _ _ (lists e .leaves-laid) (leaf-size e) (few-leaves e) in
     let named = front-is _ _ (lists e .named-laid) (named-size e) (few-named e) in
     let hash = hashed .hash-of-mask .ensures ∙ ap hashOfMask (hashed .before .mask-of .ensures .0 ∙ ap maskOf mpidrs) in
-    accepts (typed (call e)) (rows (call e)) (is e) (e .if1 .left) (omega (arith, hashed .before .before .before .if2 .left, cpus-are e))
+    accepts (sized (call e)) (rows (call e)) (is e) (e .if1 .left) (omega (arith, hashed .before .before .before .if2 .left, cpus-are e))
     (cpus-are e) hash
     (wrote .write-rows .ensures ∙ rw (mpidrs, cpus, leaves, named, hash))
 

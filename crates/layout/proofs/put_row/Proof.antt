@@ -5,7 +5,8 @@ use lib.ListN.{length, length-set}
 use lib.Seq.{sets-eq}
 use borrow.Author.Tests.{lt-ltb}
 use borrow.Author.Needs.{needs}
-use Rattle.layout.specs.Row.{rowSize, rowWords, withRow}
+use Rattle.layout.specs.facts.Row.{rowSize}
+use Rattle.layout.specs.answers.Words.{rowWords, withRow}
 use Rattle.layout.proofs.RowLaws.{with-row}
 use Rattle.layout.proofs.put_row.Statement.{statement}
 use Rattle.layout.proofs.put_row.Tie as tie

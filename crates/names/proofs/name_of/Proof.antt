@@ -1,7 +1,7 @@
 -- `name_of` meets its contract: a number after one word is the answer, and none after any is Other. Assumes nothing.
 use mathlib.Core.Path.{sym, _∙_}
 use borrow.Author.Needs.{needs}
-use Rattle.names.specs.Kind.{Kind}
+use Rattle.names.specs.facts.Kind.{Kind}
 use Rattle.names.proofs.AfterLaws.{after-name, after-none}
 use Rattle.names.proofs.name_of.Statement.{statement}
 use Rattle.names.proofs.name_of.Tie as tie

@@ -3,7 +3,8 @@ use mathlib.Core.Path.{sym, ap, _∙_}
 use lib.ListN.{length}
 use borrow.Author.Needs.{needs}
 use Rattle.laws.proofs.PartLaws.{part-is}
-use Rattle.names.specs.Name.{numberOf, numberAfter}
+use Rattle.names.specs.answers.Name.{numberOf}
+use Rattle.names.specs.steps.Name.{numberAfter}
 use Rattle.names.proofs.NameLaws.{after-short}
 use Rattle.names.proofs.number_after.Statement.{statement}
 use Rattle.names.proofs.number_after.Tie as tie

@@ -5,7 +5,7 @@ use Prim.Native.Nat.{_≤_, _<_, _-_, _^_}
 use native.Mathlib.Omega.{arith}
 use lib.ListN.{length, drop}
 use borrow.Author.Tests.{eq-eqb, ne-eqb, lt-ltb, le-ltb}
-use Rattle.names.specs.Name.{numberOf, digitsFrom}
+use Rattle.names.specs.answers.Name.{numberOf, digitsFrom}
 use Rattle.names.proofs.NameLaws.{digits-step, digits-end, power-le, power-next}
 use borrow.Author.Needs.{needs}
 use Rattle.names.proofs.number_of.Statement.{statement}

@@ -5,7 +5,7 @@ use native.Mathlib.Omega.{arith}
 use lib.ListN.{length, drop}
 use borrow.Author.Needs.{needs}
 use borrow.Author.Tests.{eq-eqb, ne-eqb}
-use Rattle.names.specs.Name.{startsWith}
+use Rattle.names.specs.answers.Name.{startsWith}
 use Rattle.names.proofs.NameLaws.{starts-step, starts-end}
 use Rattle.names.proofs.starts_with.Statement.{statement}
 use Rattle.names.proofs.starts_with.Tie as tie

@@ -5,7 +5,7 @@ use Prim.Native.Nat.{ℕ, _≤_, _-_}
 use native.Mathlib.Omega.{arith}
 use lib.ListN.{length}
 use Rattle.affinity.specs.declared.mask.Gathered.{Gathered}
-use Rattle.affinity.specs.Mask.{someBelow, gathered}
+use Rattle.affinity.specs.steps.Mask.{someBelow, gathered}
 use Rattle.affinity.proofs.MaskLaws.{allBelow, some-more, all-more, mask-is}
 use borrow.Author.Needs.{needs}
 use Rattle.affinity.proofs.mask.gather.Statement.{statement}

@@ -1,5 +1,5 @@
 -- `mask_of` is the mask that `gather` makes. Assumes nothing.
-use Rattle.affinity.specs.Mask.{gathered}
+use Rattle.affinity.specs.steps.Mask.{gathered}
 use Rattle.affinity.proofs.MaskLaws.{mask-holds}
 use borrow.Author.Needs.{needs}
 use Rattle.affinity.proofs.mask.mask_of.Statement.{statement}

@@ -7,26 +7,27 @@ use lib.ListN.{length, take, replicate, length-map, length-replicate}
 use lib.Seq.{take-all}
 use borrow.Author.Tests.{eq-eqb}
 use Rattle.laws.specs.declared.Fault.{Fault}
-use Rattle.laws.specs.Fault.{told}
-use Rattle.laws.specs.Listed.{over}
+use Rattle.laws.specs.answers.Fault.{told}
+use Rattle.laws.specs.answers.Listed.{laidOver}
 use Rattle.laws.proofs.FaultLaws.{or-second}
 use Rattle.laws.proofs.OrElseLaws.{told-number}
 use Rattle.laws.proofs.OverLaws.{over-length}
-use Rattle.tables.specs.Board.{Board, board}
-use Rattle.wellformed.specs.Rules.{WellFormed}
-use Rattle.wellformed.specs.Check.{tableFault}
+use Rattle.tables.specs.facts.Board.{Board, board}
+use Rattle.wellformed.specs.facts.Rules.{WellFormed}
+use Rattle.wellformed.specs.answers.Check.{tableFault}
 use Rattle.wellformed.proofs.RuleLaws.{table-sound}
-use Rattle.cpus.specs.Rules.{maxCpus}
-use Rattle.cpus.specs.Check.{rootNumber, rootFault, cellsOf, regCells, cpuCount, cpuList, countFault, cpuFault, phandlesFault, phandleList, mpidrList}
+use Rattle.laws.specs.facts.Limits.{maxCpus}
+use Rattle.cpus.specs.answers.Check.{rootNumber, rootFault, cellsOf, regCells, cpuCount, cpuList, countFault, cpuFault, phandlesFault, phandleList}
+use Rattle.cpus.specs.answers.Check.{mpidrList}
 use Rattle.cpus.specs.declared.RootCells.{RootCells}
-use Rattle.cpus.specs.declared.Wanted.the-variants.{Mpidrs, Phandles}
+use Rattle.cpus.specs.declared.CpuNumbers.the-variants.{Mpidrs, Phandles}
 use Rattle.cpus.proofs.CpuMeans.{cpu-count, count-fits}
 use Rattle.cpumap.specs.declared.MapScan.{MapScan}
 use Rattle.leaves.specs.declared.TreeScan.{TreeScan}
-use Rattle.cpumap.specs.Find.{mapOf}
-use Rattle.leaves.specs.Scan.{Tree, lentTree, leavesFault, treeScan, leavesOver, namedOver, treeOf, leavesOf, namedOf}
+use Rattle.cpumap.specs.answers.Find.{mapOf}
+use Rattle.leaves.specs.answers.Scan.{Tree, lentTree, leavesFault, treeScan, leavesOver, namedOver, treeOf, leavesOf, namedOf}
 use Rattle.leaves.proofs.ScanLaws.{leaves-listed, named-listed}
-use Rattle.board.specs.Survey.{surveyFault}
+use Rattle.demands.specs.answers.Survey.{surveyFault}
 use Rattle.board.proofs.FrontLaws.{front-fits, front-size, front-is}
 use Rattle.board.proofs.ReadLaws.{map-number, map-place, map-root}
 use Rattle.board.proofs.SurveyLaws.{counted-all, listed-all, mapStage, fromPhandles, fromMap, fromCpus, fromCount, fromRoot, survey-stages, tells, tells-first, clears, numbers-stage, numbers-found, tree-is}
@@ -92,7 +93,7 @@ well-4 c = well (c .before .before .before .before .before .before .before)
 as-many-cpus : (c : tie.After-count-fault) → c .before .list-cpus .result ≡ cpuCount (b4 c)
 as-many-cpus c = c .before .list-cpus .ensures .0 ∙ counted-all (b4 c) (well-4 c)
 
-cpus-laid : (c : tie.After-count-fault) → c .before .list-cpus .last .1 .1 .0 ≡ over (cpuList (b4 c)) (start c .args .cpus .now)
+cpus-laid : (c : tie.After-count-fault) → c .before .list-cpus .last .1 .1 .0 ≡ laidOver (cpuList (b4 c)) (start c .args .cpus .now)
 cpus-laid c = c .before .list-cpus .ensures .1 ∙ listed-all (b4 c) (well-4 c) _
 
 counted : (c : tie.After-count-fault) → c .count-fault .result ≡ countFault (cpuCount (b4 c))
@@ -124,7 +125,7 @@ module _ (c : tie.After-whole2) where
   abbrev array : List ℕ
   array = c .before .before .before .before .list-cpus .last .1 .1 .0
 
-  laid : array ≡ over (cpuList (b4 (c .before .before .before))) (s .args .cpus .now)
+  laid : array ≡ laidOver (cpuList (b4 (c .before .before .before))) (s .args .cpus .now)
   laid = cpus-laid (c .before .before .before)
 
   room : length (cpuList (b4 (c .before .before .before))) ≤ length (s .args .cpus .now)
@@ -143,7 +144,7 @@ module _ (c : tie.After-whole2) where
 
 -- rules 11 to 13
 module _ (c : tie.After-read-numbers) where
-  abbrev indexed : tie.After-index-keys
+  abbrev indexed : tie.After-index-properties
   indexed = c .before .before .before
 
   abbrev wholes : tie.After-whole2
@@ -162,10 +163,10 @@ module _ (c : tie.After-read-numbers) where
   cpus-listed = all-listed wholes (length mpidrs) (omega (arith, c .before .read-numbers-arg .given .0 .1))
 
   mpidr-fault : c .read-numbers .result ≡ cpuFault (b5 c)
-  mpidr-fault = c .read-numbers .ensures .0 ∙ numbers-stage (b5 c) well-5 (indexed .index-keys .ensures) cpus-listed (cells-are kept-9) 13
+  mpidr-fault = c .read-numbers .ensures .0 ∙ numbers-stage (b5 c) well-5 (indexed .index-properties .ensures) cpus-listed (cells-are kept-9) 13
 
-  mpidrs-laid : cpuFault (b5 c) .number ≡ 0 → c .read-numbers .last .1 .1 .1 .1 .1 .0 ≡ over (mpidrList (b5 c)) mpidrs
-  mpidrs-laid z = c .read-numbers .ensures .1 ∙ numbers-found (b5 c) well-5 (indexed .index-keys .ensures) cpus-listed (cells-are kept-9) 13 _ z
+  mpidrs-laid : cpuFault (b5 c) .number ≡ 0 → c .read-numbers .last .1 .1 .1 .1 .1 .0 ≡ laidOver (mpidrList (b5 c)) mpidrs
+  mpidrs-laid z = c .read-numbers .ensures .1 ∙ numbers-found (b5 c) well-5 (indexed .index-properties .ensures) cpus-listed (cells-are kept-9) 13 _ z
 
 clear-mpidrs : (c : tie.Else3) → cpuFault (b5 (c .before .before)) .number ≡ 0
 clear-mpidrs c = ap (λ (f : Fault). f .number) (sym (mpidr-fault (c .before .before))) ∙ c .if3 .left
@@ -193,11 +194,11 @@ module _ (c : tie.After-read-numbers2) where
 
   phandle-fault : c .read-numbers2 .result ≡ phandlesFault (b7 c)
   phandle-fault =
-      c .read-numbers2 .ensures .0 ∙ numbers-stage (b7 c) (well-5 read) (indexed read .index-keys .ensures) all-cpus {wanted = Phandles} refl 17
+      c .read-numbers2 .ensures .0 ∙ numbers-stage (b7 c) (well-5 read) (indexed read .index-properties .ensures) all-cpus {wanted = Phandles} refl 17
 
-  phandles-laid : phandlesFault (b7 c) .number ≡ 0 → c .read-numbers2 .last .1 .1 .1 .1 .1 .0 ≡ over (phandleList (b7 c)) (replicate 256 0)
+  phandles-laid : phandlesFault (b7 c) .number ≡ 0 → c .read-numbers2 .last .1 .1 .1 .1 .1 .0 ≡ laidOver (phandleList (b7 c)) (replicate 256 0)
   phandles-laid z =
-      c .read-numbers2 .ensures .1 ∙ numbers-found (b7 c) (well-5 read) (indexed read .index-keys .ensures) all-cpus {wanted = Phandles} refl 17 _ z
+      c .read-numbers2 .ensures .1 ∙ numbers-found (b7 c) (well-5 read) (indexed read .index-properties .ensures) all-cpus {wanted = Phandles} refl 17 _ z
 
 clear-phandles : (c : tie.Else5) → phandlesFault (b7 (c .before .before .before)) .number ≡ 0
 clear-phandles c = ap (λ (f : Fault). f .number) (sym (phandle-fault (c .before .before .before))) ∙ c .if5 .left
@@ -242,10 +243,10 @@ module _ (c : tie.After-read-tree) where
   keyed = read (asked e6)
 
   abbrev theTree : Tree
-  theTree = lentTree (b8 c .nodes) (b8 c .props) (b8 c .pool) (indexed keyed .index-keys .last .1 .1 .0) (found .find-map .result .map) lent
+  theTree = lentTree (b8 c .nodes) (b8 c .props) (b8 c .pool) (indexed keyed .index-properties .last .1 .1 .0) (found .find-map .result .map) lent
 
   tree-here : theTree ≡ treeOf (b8 c)
-  tree-here = tree-is (b8 c) (well-5 keyed) (indexed keyed .index-keys .ensures) (listed-is (wholes keyed)) root-is lent-are few-lent
+  tree-here = tree-is (b8 c) (well-5 keyed) (indexed keyed .index-properties .ensures) (listed-is (wholes keyed)) root-is lent-are few-lent
 
   scanned : c .read-tree .result ≡ treeScan (treeOf (b8 c)) (cpuList (b8 c))
   scanned = c .read-tree .ensures .0 ∙ ap₂ treeScan tree-here (listed-is (wholes keyed))
@@ -263,10 +264,10 @@ module _ (c : tie.Else6) where
   clear-tree : leavesFault (treeOf (b8 call)) (cpuList (b8 call)) .number ≡ 0
   clear-tree = sym (tree-number call) ∙ c .if6 .left
 
-  leaves-laid : call .read-tree .last .1 .1 .1 .1 .1 .1 .1 .0 ≡ over (leavesOf (b8 call)) (start (at-count (keyed call) .before) .args .leaves .now)
+  leaves-laid : call .read-tree .last .1 .1 .1 .1 .1 .1 .1 .0 ≡ laidOver (leavesOf (b8 call)) (start (at-count (keyed call) .before) .args .leaves .now)
   leaves-laid = call .read-tree .ensures .1 .0 ∙ ap (λ (t : Tree). leavesOver t (start (at-count (keyed call) .before) .args .leaves .now)) (tree-here call) ∙ leaves-listed (treeOf (b8 call)) (cpuList (b8 call)) clear-tree _
 
-  named-laid : call .read-tree .last .1 .1 .1 .1 .1 .1 .1 .1 .0 ≡ over (namedOf (b8 call)) (start (at-count (keyed call) .before) .args .named .now)
+  named-laid : call .read-tree .last .1 .1 .1 .1 .1 .1 .1 .1 .0 ≡ laidOver (namedOf (b8 call)) (start (at-count (keyed call) .before) .args .named .now)
   named-laid = call .read-tree .ensures .1 .1 ∙ ap (λ (t : Tree). namedOver t (start (at-count (keyed call) .before) .args .named .now)) (tree-here call) ∙ named-listed (treeOf (b8 call)) (cpuList (b8 call)) clear-tree _
 
   leaf-count : call .read-tree .result .count ≡ length (leavesOf (b8 call))
@@ -328,8 +329,8 @@ returns-3 c =
 slice-aggregate-listed : tie.Need-slice-aggregate-listed
 slice-aggregate-listed c = listed-size (c .before)
 
-index-keys-requires : tie.Need-index-keys-requires
-index-keys-requires c κs = search needs
+index-properties-requires : tie.Need-index-properties-requires
+index-properties-requires c κs = search needs
 
 read-numbers-requires : tie.Need-read-numbers-requires
 read-numbers-requires c κs = search needs
@@ -424,7 +425,7 @@ survey-spec =
     stop-requires-3
     returns-3
     slice-aggregate-listed
-    index-keys-requires
+    index-properties-requires
     read-numbers-requires
     stop-requires-4
     returns-4

@@ -1,7 +1,7 @@
 -- `extended` meets its contract: one number more, or the path as it is where it is full. Assumes nothing.
 use borrow.Author.Tests.{lt-ltb, le-ltb}
 use borrow.Author.Needs.{needs}
-use Rattle.cpumap.specs.Path.{extend}
+use Rattle.cpumap.specs.answers.Path.{extend}
 use Rattle.cpumap.proofs.ClusterPath.extended.Statement.{statement}
 use Rattle.cpumap.proofs.ClusterPath.extended.Tie as tie
 

@@ -1,6 +1,6 @@
 -- `is_map` meets its contract. Assumes nothing.
 use mathlib.Core.Path.{sym, _∙_}
-use Rattle.cpumap.specs.Find.{isMap}
+use Rattle.cpumap.specs.answers.Find.{isMap}
 use borrow.Author.Needs.{needs}
 use Rattle.cpumap.proofs.find.is_map.Statement.{statement}
 use Rattle.cpumap.proofs.find.is_map.Tie as tie

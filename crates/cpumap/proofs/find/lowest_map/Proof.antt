@@ -3,10 +3,10 @@ use mathlib.Core.Path.{_≡_, refl, sym, _∙_}
 use Prim.Native.Nat.{_≤_, _-_}
 use native.Mathlib.Omega.{arith}
 use borrow.Author.Needs.{needs}
-use Rattle.laws.specs.Search.{lowest}
+use Rattle.laws.specs.answers.Search.{lowest}
 use Rattle.laws.proofs.SearchLaws.{lowest-more, lowest-at}
 use Rattle.laws.proofs.PassLaws.{lowest-end}
-use Rattle.cpumap.specs.Find.{isMap, mapOf}
+use Rattle.cpumap.specs.answers.Find.{isMap, mapOf}
 use Rattle.cpumap.proofs.find.lowest_map.Statement.{statement}
 use Rattle.cpumap.proofs.find.lowest_map.Tie as tie
 

@@ -3,9 +3,9 @@ use mathlib.Core.Path.{_≡_, refl}
 use Prim.Native.Nat.{_≤_, _-_}
 use native.Mathlib.Omega.{arith}
 use borrow.Author.Needs.{needs}
-use Rattle.laws.specs.Fault.{clear, firstFault}
+use Rattle.laws.specs.answers.Fault.{clear, firstFault}
 use Rattle.laws.proofs.FaultLaws.{clear-more, at-fault, at-end}
-use Rattle.cpumap.specs.Find.{secondMapFault}
+use Rattle.cpumap.specs.answers.Find.{secondMapFault}
 use Rattle.cpumap.proofs.find.second_map.Statement.{statement}
 use Rattle.cpumap.proofs.find.second_map.Tie as tie
 

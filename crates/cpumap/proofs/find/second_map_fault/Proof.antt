@@ -1,7 +1,7 @@
 -- `second_map_fault` meets its contract. Assumes nothing.
 use mathlib.Core.Path.{sym, _∙_}
 use borrow.Author.Tests.{eq-eqb, ne-eqb}
-use Rattle.cpumap.specs.Find.{secondMapFault}
+use Rattle.cpumap.specs.answers.Find.{secondMapFault}
 use borrow.Author.Needs.{needs}
 use Rattle.cpumap.proofs.find.second_map_fault.Statement.{statement}
 use Rattle.cpumap.proofs.find.second_map_fault.Tie as tie

@@ -7,7 +7,7 @@ use borrow.Fn.Kinds.{In}
 use borrow.Fn.PlainCycle.{Measures, is, falls, and}
 use Rattle.tables.proofs.TreeLaws.{parent-is}
 use Rattle.tables.proofs.parent_of.Reads as parent-of-reads
-use Rattle.cpumap.specs.Path.{positionStep}
+use Rattle.cpumap.specs.steps.Position.{positionStep}
 use Rattle.cpumap.proofs.CodeLaws.{position-none, position-is}
 use Rattle.cpumap.proofs.positions.position_of.Reads as position-of
 use Rattle.cpumap.proofs.positions.position_of.Kinds as position-of-kinds

@@ -1,6 +1,6 @@
 -- `is_cpu` meets its contract. Assumes nothing.
 use mathlib.Core.Path.{sym, _∙_}
-use Rattle.cpus.specs.Check.{isCpu}
+use Rattle.cpus.specs.answers.Check.{isCpu}
 use borrow.Author.Needs.{needs}
 use Rattle.cpus.proofs.node.is_cpu.Statement.{statement}
 use Rattle.cpus.proofs.node.is_cpu.Tie as tie

@@ -3,11 +3,11 @@ use mathlib.Core.Path.{_≡_, refl, _∙_}
 use mathlib.Core.Bool.{Bool, true, false, cond}
 use native.Mathlib.Omega.{arith}
 use borrow.Author.Tests.{lt-ltb, le-ltb}
-use Rattle.tables.specs.Board.{rangeIs}
+use Rattle.tables.specs.answers.Range.{rangeIs}
 use Rattle.tables.proofs.CodePool.{other-length}
 use Rattle.tables.proofs.CellLaws.{cell-is}
-use Rattle.cpus.specs.Words.{cpuWord}
-use Rattle.cpus.specs.Check.{isCpuName}
+use Rattle.tables.specs.facts.Binding.{cpuWord}
+use Rattle.cpus.specs.answers.Check.{isCpuName}
 use borrow.Author.Needs.{needs}
 use Rattle.cpus.proofs.node.is_cpu_name.Statement.{statement}
 use Rattle.cpus.proofs.node.is_cpu_name.Tie as tie

@@ -1,5 +1,5 @@
 -- `cell_of` meets its contract. Assumes nothing.
-use Rattle.cpus.specs.Cell.{cellOf}
+use Rattle.cpus.specs.answers.Cell.{cellOf}
 use borrow.Author.Needs.{needs}
 use Rattle.cpus.proofs.property.cell_of.Statement.{statement}
 use Rattle.cpus.proofs.property.cell_of.Tie as tie

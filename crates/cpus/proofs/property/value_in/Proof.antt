@@ -1,7 +1,7 @@
 -- `value_in` meets its contract: each answer is the definition's at what was found. Assumes nothing.
 use mathlib.Core.Path.{sym, ap, _∙_}
-use Rattle.cpus.specs.declared.Value.the-variants.{Is}
-use Rattle.cpus.specs.Cell.{sizeOf}
+use Rattle.cpus.specs.declared.Value.the-variants.{Number}
+use Rattle.cpus.specs.answers.Cell.{sizeOf}
 use Rattle.cpus.proofs.ValueMeans.{sized-test}
 use borrow.Author.Needs.{needs}
 use Rattle.cpus.proofs.property.value_in.Statement.{statement}
@@ -36,7 +36,7 @@ returns-2 c =
       test .before .before .before .found .given .1,
       sym (test .before .has-cells .ensures) ∙ test .if1 .taken,
       ← c .before .prop-word .ensures,
-    ) (ap Is (c .cells-at .ensures))
+    ) (ap Number (c .cells-at .ensures))
 
 returns-3 : tie.Need-returns-3
 returns-3 c = rw (c .before .before .before .found .given .1, sym (c .before .has-cells .ensures) ∙ c .if1 .left)

@@ -1,6 +1,6 @@
 -- `read_record` meets its contract: each answer is the definition's for what is wanted. Assumes nothing.
 use mathlib.Core.Path.{sym, _∙_}
-use Rattle.cpus.specs.Gather.{readingFrom}
+use Rattle.cpus.specs.answers.Numbers.{readingFrom}
 use borrow.Author.Needs.{needs}
 use Rattle.cpus.proofs.read.read_record.Statement.{statement}
 use Rattle.cpus.proofs.read.read_record.Tie as tie
@@ -11,8 +11,8 @@ enum-known-wanted c = search needs
 enum-told : tie.Need-enum-told
 enum-told c = search needs
 
-find-key-requires : tie.Need-find-key-requires
-find-key-requires c κs = search needs
+find-indexed-requires : tie.Need-find-indexed-requires
+find-indexed-requires c κs = search needs
 
 cell-in-requires : tie.Need-cell-in-requires
 cell-in-requires c κs = search needs
@@ -29,13 +29,13 @@ returns c =
     let cell = c .before .before in
     rw (
       cell .before .before .enum-told .given .1,
-      ← cell .before .find-key .ensures,
+      ← cell .before .find-indexed .ensures,
       ← cell .cell-in .ensures,
       ← c .before .phandle-in .ensures,
     ) (c .number-or .ensures)
 
-find-key-requires-2 : tie.Need-find-key-requires-2
-find-key-requires-2 c κs = search needs
+find-indexed-requires-2 : tie.Need-find-indexed-requires-2
+find-indexed-requires-2 c κs = search needs
 
 cell-in-requires-2 : tie.Need-cell-in-requires-2
 cell-in-requires-2 c κs = search needs
@@ -43,8 +43,8 @@ cell-in-requires-2 c κs = search needs
 is-number-requires : tie.Need-is-number-requires
 is-number-requires c κs = search needs
 
-find-key-requires-3 : tie.Need-find-key-requires-3
-find-key-requires-3 c κs = search needs
+find-indexed-requires-3 : tie.Need-find-indexed-requires-3
+find-indexed-requires-3 c κs = search needs
 
 value-in-requires : tie.Need-value-in-requires
 value-in-requires c κs = search needs
@@ -63,10 +63,10 @@ returns-2 c =
     let kind = test .before .before in
     rw (
       kind .before .before .before .wanted .given .1,
-      ← kind .before .find-key2 .ensures,
+      ← kind .before .find-indexed2 .ensures,
       ← kind .cell-in2 .ensures,
       sym (test .before .is-number .ensures) ∙ test .if1 .taken,
-      ← value .before .find-key3 .ensures,
+      ← value .before .find-indexed3 .ensures,
       ← value .value-in .ensures,
       ← c .before .affine-only .ensures,
     ) (c .number-or2 .ensures)
@@ -81,7 +81,7 @@ returns-3 c =
     let kind = test .before .before in
     rw (
       kind .before .before .before .wanted .given .1,
-      ← kind .before .find-key2 .ensures,
+      ← kind .before .find-indexed2 .ensures,
       ← kind .cell-in2 .ensures,
       sym (test .before .is-number .ensures) ∙ test .if1 .left,
     ) (c .number-or3 .ensures)
@@ -92,15 +92,15 @@ read-record-spec =
     (tie.spec
     enum-known-wanted
     enum-told
-    find-key-requires
+    find-indexed-requires
     cell-in-requires
     phandle-in-requires
     number-or-requires
     returns
-    find-key-requires-2
+    find-indexed-requires-2
     cell-in-requires-2
     is-number-requires
-    find-key-requires-3
+    find-indexed-requires-3
     value-in-requires
     affine-only-requires
     number-or-requires-2

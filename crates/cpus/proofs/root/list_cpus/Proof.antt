@@ -3,20 +3,20 @@ use mathlib.Core.Path.{_≡_, refl, sym, ap, _∙_}
 use Prim.Native.Nat.{ℕ, _+_, _-_, _≤_, min}
 use native.Mathlib.Omega.{arith}
 use borrow.Author.Tests.{not-true, not-false}
-use Rattle.laws.specs.Listed.{over}
-use Rattle.laws.specs.Search.{countBelow, listBelow}
+use Rattle.laws.specs.answers.Listed.{laidOver}
+use Rattle.laws.specs.answers.Search.{countBelow, listBelow}
 use Rattle.laws.proofs.OverLaws.{over-none, listed-yes, listed-no}
 use Rattle.laws.proofs.SearchLaws.{count-yes, count-no, count-le}
-use Rattle.tables.specs.Board.{nodeCount}
-use Rattle.wellformed.specs.Limits.{maxNodes}
-use Rattle.cpus.specs.Check.{isCpu}
+use Rattle.tables.specs.facts.Board.{nodeCount}
+use Rattle.laws.specs.facts.Limits.{maxNodes}
+use Rattle.cpus.specs.answers.Check.{isCpu}
 use borrow.Author.Needs.{needs}
 use Rattle.cpus.proofs.root.list_cpus.Statement.{statement}
 use Rattle.cpus.proofs.root.list_cpus.Tie as tie
 
 abbrev Inv-loop : tie.InvT-loop
 Inv-loop nodes pool records₀ n count₀ i₀ records count i =
-    (i ≤ n) × (count ≡ countBelow (isCpu nodes pool) i) × (records ≡ over (listBelow (isCpu nodes pool) i) records₀)
+    (i ≤ n) × (count ≡ countBelow (isCpu nodes pool) i) × (records ≡ laidOver (listBelow (isCpu nodes pool) i) records₀)
 
 abbrev μ-loop : tie.MeasureT-loop
 μ-loop nodes pool records₀ n count₀ i₀ records count i = n - i
@@ -75,7 +75,7 @@ returns c =
     let a = c .before .before .before .before .before .args in
     let loop = c .before .loop in
     let end : loop .i ≡ min (nodeCount (a .nodes .now)) maxNodes = omega (arith, c .before .before .at-most .ensures) in
-    (loop .inv .1 ∙ ap (countBelow (isCpu (a .nodes .now) (a .pool .now))) end, loop .inv .2 ∙ ap (λ (k : ℕ). over (listBelow (isCpu (a .nodes .now) (a .pool .now)) k) (a .records .now)) end)
+    (loop .inv .1 ∙ ap (countBelow (isCpu (a .nodes .now) (a .pool .now))) end, loop .inv .2 ∙ ap (λ (k : ℕ). laidOver (listBelow (isCpu (a .nodes .now) (a .pool .now)) k) (a .records .now)) end)
 
 pub list-cpus-spec : {M : Type 1} → statement M
 list-cpus-spec =

@@ -1,7 +1,7 @@
 -- `read_cells` meets its contract: each answer is the definition's at what its tests give. Assumes nothing.
 use mathlib.Core.Path.{sym, _∙_}
 use borrow.Author.Tests.{not-true, not-false}
-use Rattle.cpus.specs.Check.{soundCells, addressCells}
+use Rattle.cpus.specs.answers.Check.{soundCells, addressCells}
 use borrow.Author.Needs.{needs}
 use Rattle.cpus.proofs.root.read_cells.Statement.{statement}
 use Rattle.cpus.proofs.root.read_cells.Tie as tie

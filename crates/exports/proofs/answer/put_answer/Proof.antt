@@ -3,7 +3,7 @@ use native.Mathlib.Omega.{arith}
 use lib.ListN.{length-set}
 use lib.Seq.{sets-eq}
 use borrow.Author.Tests.{le-ltb}
-use Rattle.exports.specs.Answer.{answerWords}
+use Rattle.exports.specs.answers.Answer.{answerWords}
 use borrow.Author.Needs.{needs}
 use Rattle.exports.proofs.answer.put_answer.Statement.{statement}
 use Rattle.exports.proofs.answer.put_answer.Tie as tie

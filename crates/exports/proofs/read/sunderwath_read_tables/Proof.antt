@@ -2,7 +2,7 @@
 use native.Mathlib.Omega.{arith}
 use lib.ListN.{length}
 use borrow.Author.Tests.{lt-ltb, le-ltb}
-use Rattle.board.proofs.BoundLaws.{answer-place, answer-count}
+use Rattle.demands.proofs.BoundLaws.{answer-place, answer-count}
 use Rattle.exports.proofs.CallLaws.{word-holds}
 use borrow.Author.Needs.{needs}
 use Rattle.exports.proofs.read.sunderwath_read_tables.Statement.{statement}

@@ -7,7 +7,7 @@ use lib.Dec.{leb}
 use lib.ListN.{length}
 use borrow.Author.Tests.{le-leb, lt-leb, eq-eqb, ne-eqb}
 use borrow.Author.Needs.{needs}
-use Rattle.laws.specs.Search.{missesFour}
+use Rattle.laws.specs.steps.Fours.{missesFour}
 use Rattle.laws.proofs.search.misses_four.Statement.{statement}
 use Rattle.laws.proofs.search.misses_four.Tie as tie
 

@@ -1,7 +1,7 @@
 -- `record_check` meets its contract: a leaf and the cpu that it names, or no leaf. Assumes nothing.
 use mathlib.Core.Path.{ap, _∙_}
 use borrow.Author.Needs.{needs}
-use Rattle.leaves.specs.Check.{leafCheck, recordCheck}
+use Rattle.leaves.specs.answers.Check.{leafCheck, recordCheck}
 use Rattle.leaves.proofs.check.record_check.Statement.{statement}
 use Rattle.leaves.proofs.check.record_check.Tie as tie
 

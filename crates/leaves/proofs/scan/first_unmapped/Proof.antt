@@ -7,10 +7,10 @@ use native.Mathlib.Omega.{arith}
 use lib.ListN.{length}
 use borrow.Author.Tests.{not-true, not-false}
 use borrow.Author.Needs.{needs}
-use Rattle.laws.specs.Fault.{clear, firstFault}
-use Rattle.laws.specs.Listed.{toldOf}
+use Rattle.laws.specs.answers.Fault.{clear, firstFault}
+use Rattle.laws.specs.answers.Listed.{faultOfMember}
 use Rattle.laws.proofs.FaultLaws.{clear-more, at-fault, at-end}
-use Rattle.leaves.specs.Pass.{isMarked, unmarkedFault}
+use Rattle.leaves.specs.steps.Pass.{isMarked, unmarkedFault}
 use Rattle.leaves.proofs.scan.first_unmapped.Statement.{statement}
 use Rattle.leaves.proofs.scan.first_unmapped.Tie as tie
 
@@ -47,7 +47,7 @@ returns c =
     let loop = call .before .before .loop in
     let a = call .before .before .before .before .before .args in
     let fault = unmarked (a .marks .now) (loop .k) (sym (not-true (call .is-marked .result) (c .before .if1 .taken)) ∙ call .is-marked .ensures) in
-    ap (toldOf (a .records .now)) (at-fault _ _ _ (omega arith) (loop .inv .1) fault (λ z. omega arith))
+    ap (faultOfMember (a .records .now)) (at-fault _ _ _ (omega arith) (loop .inv .1) fault (λ z. omega arith))
 
 add-k : tie.Need-add-k Inv-loop μ-loop
 add-k c = search needs
@@ -64,7 +64,7 @@ loop-again c =
     (omega arith, clear-more _ _ (loop .inv .1) fault refl)
 
 returns-2 : tie.Need-returns-2 Inv-loop μ-loop
-returns-2 c = ap (toldOf (c .before .before .before .before .args .records .now)) (at-end _ _ _ (omega arith) (c .before .loop .inv .1))
+returns-2 c = ap (faultOfMember (c .before .before .before .before .args .records .now)) (at-end _ _ _ (omega arith) (c .before .loop .inv .1))
 
 pub first-unmapped-spec : {M : Type 1} → statement M
 first-unmapped-spec =

@@ -6,8 +6,7 @@ use native.Mathlib.Omega.{arith}
 use lib.ListN.{length}
 use borrow.Author.Needs.{needs}
 use Rattle.laws.proofs.CutLaws.{cut-size, cut-few}
-use Rattle.wellformed.specs.Limits.{maxNodes}
-use Rattle.cpus.specs.Rules.{maxCpus}
+use Rattle.laws.specs.facts.Limits.{maxNodes, maxCpus}
 use Rattle.leaves.proofs.ScanLaws.{cut-pass, first-told, last-is, last-told, last-clear}
 use Rattle.leaves.proofs.scan.read_tree.Statement.{statement}
 use Rattle.leaves.proofs.scan.read_tree.Tie as tie
@@ -16,11 +15,11 @@ use Rattle.leaves.proofs.scan.read_tree.Tie as tie
 abbrev start : tie.After-at-most2 → tie.Start
 start c = c .before .before .before .before .before .before .before
 
-abbrev cut : tie.After-gather → tie.After-at-most2
+abbrev cut : tie.After-scan-records → tie.After-at-most2
 cut c = c .before .before .before .before .before .before
 
 -- the list of cpu records
-abbrev records : tie.After-gather → List ℕ
+abbrev records : tie.After-scan-records → List ℕ
 records c = start (cut c) .args .cpu-records .now
 
 -- the lengths
@@ -39,24 +38,24 @@ at-most-requires c κs = search needs
 at-most-requires-2 : tie.Need-at-most-requires-2
 at-most-requires-2 c κs = search needs
 
-slice-aggregate-gather : tie.Need-slice-aggregate-gather
-slice-aggregate-gather c = cut-size (start (c .before) .args .nodes .now) (3 * maxNodes) (words (c .before))
+slice-aggregate-scan-records : tie.Need-slice-aggregate-scan-records
+slice-aggregate-scan-records c = cut-size (start (c .before) .args .nodes .now) (3 * maxNodes) (words (c .before))
 
-slice-aggregate-gather-2 : tie.Need-slice-aggregate-gather-2
-slice-aggregate-gather-2 c = cut-size (start (c .before .before) .args .phandles .now) maxCpus (known (c .before .before))
+slice-aggregate-scan-records-2 : tie.Need-slice-aggregate-scan-records-2
+slice-aggregate-scan-records-2 c = cut-size (start (c .before .before) .args .phandles .now) maxCpus (known (c .before .before))
 
-slice-aggregate-gather-3 : tie.Need-slice-aggregate-gather-3
-slice-aggregate-gather-3 c = search needs
+slice-aggregate-scan-records-3 : tie.Need-slice-aggregate-scan-records-3
+slice-aggregate-scan-records-3 c = search needs
 
-gather-requires : tie.Need-gather-requires
-gather-requires c κs =
+scan-records-requires : tie.Need-scan-records-requires
+scan-records-requires c κs =
     let at = c .before .before .before .before .before in
     ((cut-few (start at .args .phandles .now) maxCpus (known at), omega (arith, cut-few (start at .args .nodes .now) (3 * maxNodes) (words at))), refl)
 
 returns : tie.Need-returns
 returns c =
     let call = c .before .before .before in
-    let pass = cut-pass _ _ _ _ _ _ (words (cut call)) (known (cut call)) (call .gather .ensures) in
+    let pass = cut-pass _ _ _ _ _ _ (words (cut call)) (known (cut call)) (call .scan-records .ensures) in
     (first-told _ _ (pass .0) (c .if1 .taken), (pass .1 .leaves-left, pass .1 .named-left))
 
 slice-aggregate-first-unmapped : tie.Need-slice-aggregate-first-unmapped
@@ -73,7 +72,7 @@ returns-2 c =
     let last = c .before .before .before in
     let test = last .before .before in
     let call = test .before .before .before in
-    let pass = cut-pass _ _ _ _ _ _ (words (cut call)) (known (cut call)) (call .gather .ensures) in
+    let pass = cut-pass _ _ _ _ _ _ (words (cut call)) (known (cut call)) (call .scan-records .ensures) in
     let is = last-is _ (records call) (pass .0) (test .if1 .left) (pass .1 .marks-left) (last .first-unmapped .ensures) in
     (c .refuse .ensures ∙ last-told _ (records call) (pass .0) (test .if1 .left) is (c .before .if2 .taken), (pass .1 .leaves-left, pass .1 .named-left))
 
@@ -82,7 +81,7 @@ returns-3 c =
     let last = c .before .before in
     let test = last .before .before in
     let call = test .before .before .before in
-    let pass = cut-pass _ _ _ _ _ _ (words (cut call)) (known (cut call)) (call .gather .ensures) in
+    let pass = cut-pass _ _ _ _ _ _ (words (cut call)) (known (cut call)) (call .scan-records .ensures) in
     let is = last-is _ (records call) (pass .0) (test .if1 .left) (pass .1 .marks-left) (last .first-unmapped .ensures) in
     (last-clear _ (records call) (pass .0) (test .if1 .left) is (c .if2 .left), (pass .1 .leaves-left, pass .1 .named-left))
 
@@ -93,10 +92,10 @@ read-tree-spec =
     mul-at-most
     at-most-requires
     at-most-requires-2
-    slice-aggregate-gather
-    slice-aggregate-gather-2
-    slice-aggregate-gather-3
-    gather-requires
+    slice-aggregate-scan-records
+    slice-aggregate-scan-records-2
+    slice-aggregate-scan-records-3
+    scan-records-requires
     returns
     slice-aggregate-first-unmapped
     first-unmapped-requires

@@ -1,7 +1,7 @@
 -- `sound_name` tests the length of a name and its range. Assumes nothing.
 use borrow.Author.Tests.{eq-eqb, ne-eqb, lt-ltb, le-ltb}
 use borrow.Author.Needs.{needs}
-use Rattle.records.specs.Check.{soundName}
+use Rattle.records.specs.answers.Check.{soundName}
 use Rattle.records.proofs.name.sound_name.Statement.{statement}
 use Rattle.records.proofs.name.sound_name.Tie as tie
 

@@ -3,9 +3,9 @@ use mathlib.Core.Path.{_≡_, refl}
 use Prim.Native.Nat.{_≤_, _-_}
 use native.Mathlib.Omega.{arith}
 use borrow.Author.Needs.{needs}
-use Rattle.laws.specs.Fault.{clear, firstFault}
+use Rattle.laws.specs.answers.Fault.{clear, firstFault}
 use Rattle.laws.proofs.FaultLaws.{clear-more, at-fault, at-end}
-use Rattle.records.specs.Check.{nodeFault}
+use Rattle.records.specs.answers.Check.{nodeFault}
 use Rattle.records.proofs.nodes.first_node_fault.Statement.{statement}
 use Rattle.records.proofs.nodes.first_node_fault.Tie as tie
 

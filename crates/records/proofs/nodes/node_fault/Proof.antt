@@ -3,7 +3,7 @@ use mathlib.Core.Path.{_≡_}
 use mathlib.Core.Bool.{cond}
 use borrow.Author.Tests.{not-true, not-false}
 use borrow.Author.Needs.{needs}
-use Rattle.records.specs.Check.{nodeFault}
+use Rattle.records.specs.answers.Check.{nodeFault}
 use Rattle.records.proofs.nodes.node_fault.Statement.{statement}
 use Rattle.records.proofs.nodes.node_fault.Tie as tie
 

@@ -5,8 +5,8 @@ use Prim.Native.Nat.{_-_}
 use lib.Dec.{eqb}
 use borrow.Author.Tests.{eq-eqb, ne-eqb}
 use borrow.Author.Needs.{needs}
-use Rattle.tables.specs.Tree.{isBelow}
-use Rattle.records.specs.Check.{soundParent}
+use Rattle.tables.specs.answers.Tree.{isBelow}
+use Rattle.records.specs.answers.Check.{soundParent}
 use Rattle.records.proofs.CodeParent.{sound-first, sound-later}
 use Rattle.records.proofs.nodes.sound_parent.Statement.{statement}
 use Rattle.records.proofs.nodes.sound_parent.Tie as tie

@@ -7,12 +7,12 @@ use native.Mathlib.Omega.{arith}
 use lib.ListN.{length}
 use borrow.Author.Tests.{not-true, not-false}
 use borrow.Author.Needs.{needs}
-use Rattle.laws.specs.Fault.{clear, firstFault}
-use Rattle.laws.specs.Search.{anyBelow}
+use Rattle.laws.specs.answers.Fault.{clear, firstFault}
+use Rattle.laws.specs.answers.Search.{anyBelow}
 use Rattle.laws.proofs.FaultLaws.{clear-more, at-fault, at-end}
 use Rattle.laws.proofs.SearchLaws.{none-more}
-use Rattle.records.specs.Check.{soundProperty, sameProperty, propertyFault}
-use Rattle.tables.specs.Board.{range}
+use Rattle.records.specs.answers.Check.{soundProperty, sameProperty, propertyFault}
+use Rattle.tables.specs.facts.Board.{range}
 use Rattle.tables.proofs.CodePool.{range-length}
 use Rattle.records.proofs.CodeName.{other-property, tested-property}
 use Rattle.records.proofs.CodeRepeat.{sound-inside, words-sound, fault-seven, fault-eight, fault-none, same-name}

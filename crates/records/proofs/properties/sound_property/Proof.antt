@@ -5,7 +5,7 @@ use Prim.Native.Nat.{_+_}
 use lib.Dec.{leb}
 use borrow.Author.Tests.{lt-ltb, le-ltb}
 use borrow.Author.Needs.{needs}
-use Rattle.records.specs.Check.{soundWords}
+use Rattle.records.specs.answers.Check.{soundWords}
 use Rattle.records.proofs.properties.sound_property.Statement.{statement}
 use Rattle.records.proofs.properties.sound_property.Tie as tie
 

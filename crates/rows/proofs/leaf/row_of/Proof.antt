@@ -1,8 +1,8 @@
 -- `row_of` fills a row from the leaf's name and its position. Assumes nothing.
 use mathlib.Core.Path.{ap}
-use Rattle.cpumap.specs.Path.{positionOf}
+use Rattle.cpumap.specs.answers.Path.{positionOf}
 use Rattle.rows.specs.declared.Placed.{Placed}
-use Rattle.rows.specs.Row.{rowOf}
+use Rattle.rows.specs.answers.Leaf.{rowOf}
 use borrow.Author.Needs.{needs}
 use Rattle.rows.proofs.leaf.row_of.Statement.{statement}
 use Rattle.rows.proofs.leaf.row_of.Tie as tie

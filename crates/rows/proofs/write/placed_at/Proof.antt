@@ -1,6 +1,6 @@
 -- `placed_at` meets its contract: as it is known where the record is the same, or read anew. Assumes nothing.
 use mathlib.Core.Path.{sym, ap, _∙_}
-use Rattle.rows.specs.Row.{placed}
+use Rattle.rows.specs.steps.Position.{placed}
 use borrow.Author.Needs.{needs}
 use Rattle.rows.proofs.write.placed_at.Statement.{statement}
 use Rattle.rows.proofs.write.placed_at.Tie as tie

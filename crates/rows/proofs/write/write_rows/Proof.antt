@@ -7,10 +7,10 @@ use lib.ListN.{length, drop, getD}
 use borrow.Author.Needs.{needs}
 use borrow.Author.Tests.{lt-ltb, le-ltb}
 use borrow.Rule.Slice.PartMut.{same-len-mid}
-use Rattle.layout.specs.Row.{rowSize}
+use Rattle.layout.specs.facts.Row.{rowSize}
 use Rattle.tables.proofs.CodePool.{word-zero}
-use Rattle.rows.specs.Row.{placed}
-use Rattle.rows.specs.Write.{Source, source, rowNumber, rowsBelow, written}
+use Rattle.rows.specs.steps.Position.{placed}
+use Rattle.rows.specs.answers.Write.{Source, source, rowNumber, rowsBelow, written}
 use Rattle.rows.proofs.RowLaws.{number-made, row-more}
 use Rattle.rows.proofs.PositionLaws.{placed-own}
 use Rattle.rows.proofs.write.write_rows.Statement.{statement}

@@ -4,7 +4,7 @@ use native.Mathlib.Omega.{arith}
 use lib.ListN.{length}
 use borrow.Author.Tests.{le-leb, lt-leb}
 use borrow.Author.Needs.{needs}
-use Rattle.tables.specs.Property.{cellAt}
+use Rattle.tables.specs.answers.Lookup.{cellAt}
 use Rattle.tables.proofs.pool.cell_at.Statement.{statement}
 use Rattle.tables.proofs.pool.cell_at.Tie as tie
 
@@ -21,35 +21,35 @@ returns-2 c =
     let a = c .before .before .before .args in
     rw (lt-leb (a .at + 4) (length (a .pool .now)) (omega arith))
 
-shared-slice-read-join : tie.Need-shared-slice-read-join
-shared-slice-read-join c = search needs
+shared-slice-read-big-endian : tie.Need-shared-slice-read-big-endian
+shared-slice-read-big-endian c = search needs
 
-add-join : tie.Need-add-join
-add-join c = search needs
+add-big-endian : tie.Need-add-big-endian
+add-big-endian c = search needs
 
-shared-slice-read-join-2 : tie.Need-shared-slice-read-join-2
-shared-slice-read-join-2 c = search needs
+shared-slice-read-big-endian-2 : tie.Need-shared-slice-read-big-endian-2
+shared-slice-read-big-endian-2 c = search needs
 
-add-join-2 : tie.Need-add-join-2
-add-join-2 c = search needs
+add-big-endian-2 : tie.Need-add-big-endian-2
+add-big-endian-2 c = search needs
 
-shared-slice-read-join-3 : tie.Need-shared-slice-read-join-3
-shared-slice-read-join-3 c = search needs
+shared-slice-read-big-endian-3 : tie.Need-shared-slice-read-big-endian-3
+shared-slice-read-big-endian-3 c = search needs
 
-add-join-3 : tie.Need-add-join-3
-add-join-3 c = search needs
+add-big-endian-3 : tie.Need-add-big-endian-3
+add-big-endian-3 c = search needs
 
-shared-slice-read-join-4 : tie.Need-shared-slice-read-join-4
-shared-slice-read-join-4 c = search needs
+shared-slice-read-big-endian-4 : tie.Need-shared-slice-read-big-endian-4
+shared-slice-read-big-endian-4 c = search needs
 
-join-requires : tie.Need-join-requires
-join-requires c κs = search needs
+big-endian-requires : tie.Need-big-endian-requires
+big-endian-requires c κs = search needs
 
 returns-3 : tie.Need-returns-3
 unfolding cellAt
 returns-3 c =
     let a = c .before .before .before .before .before .before .before .before .args in
-    rw (le-leb (a .at + 4) (length (a .pool .now)) (omega arith)) (c .join .ensures)
+    rw (le-leb (a .at + 4) (length (a .pool .now)) (omega arith)) (c .big-endian .ensures)
 
 pub cell-at-spec : {M : Type 1} → statement M
 cell-at-spec =
@@ -58,12 +58,12 @@ cell-at-spec =
     returns
     sub-if2
     returns-2
-    shared-slice-read-join
-    add-join
-    shared-slice-read-join-2
-    add-join-2
-    shared-slice-read-join-3
-    add-join-3
-    shared-slice-read-join-4
-    join-requires
+    shared-slice-read-big-endian
+    add-big-endian
+    shared-slice-read-big-endian-2
+    add-big-endian-2
+    shared-slice-read-big-endian-3
+    add-big-endian-3
+    shared-slice-read-big-endian-4
+    big-endian-requires
     returns-3)

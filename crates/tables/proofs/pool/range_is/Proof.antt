@@ -5,7 +5,7 @@ use native.Mathlib.Omega.{arith}
 use lib.ListN.{length}
 use borrow.Author.Tests.{leb-true}
 use borrow.Author.Needs.{needs}
-use Rattle.tables.specs.Board.{rangeIs}
+use Rattle.tables.specs.answers.Range.{rangeIs}
 use Rattle.tables.proofs.CodePool.{other-length}
 use Rattle.tables.proofs.pool.range_is.Statement.{statement}
 use Rattle.tables.proofs.pool.range_is.Tie as tie

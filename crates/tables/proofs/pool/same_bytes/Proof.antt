@@ -7,7 +7,7 @@ use lib.Dec.{eqb}
 use lib.ListN.{getD, drop}
 use borrow.Author.Tests.{eq-eqb, ne-eqb}
 use borrow.Author.Needs.{needs}
-use Rattle.laws.specs.Same.{sameList}
+use Rattle.laws.specs.answers.Same.{sameList}
 use Rattle.laws.proofs.SameLaws.{same-length, same-step, same-end}
 use Rattle.tables.proofs.CodePool.{cells-differ, cells-same}
 use Rattle.tables.proofs.pool.same_bytes.Statement.{statement}

@@ -3,8 +3,8 @@ use mathlib.Core.Path.{_≡_, sym, _∙_}
 use Prim.Native.Nat.{_≤_, _-_}
 use native.Mathlib.Omega.{arith}
 use borrow.Author.Needs.{needs}
-use Rattle.laws.specs.Search.{lowest}
-use Rattle.tables.specs.Property.{isProperty}
+use Rattle.laws.specs.answers.Search.{lowest}
+use Rattle.tables.specs.answers.Lookup.{isProperty}
 use Rattle.tables.proofs.CodeLookup.{found-at, found-none, none-more, none-yet}
 use Rattle.tables.proofs.property.find_property.Statement.{statement}
 use Rattle.tables.proofs.property.find_property.Tie as tie

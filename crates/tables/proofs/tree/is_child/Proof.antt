@@ -3,7 +3,7 @@ use mathlib.Core.Path.{_∙_}
 use Prim.Native.Nat.{_*_}
 use borrow.Author.Tests.{lt-ltb, le-ltb, eq-eqb, ne-eqb}
 use Rattle.tables.proofs.CodePool.{word-zero}
-use Rattle.tables.specs.Tree.{isChild}
+use Rattle.tables.specs.answers.Tree.{isChild}
 use borrow.Author.Needs.{needs}
 use Rattle.tables.proofs.tree.is_child.Statement.{statement}
 use Rattle.tables.proofs.tree.is_child.Tie as tie

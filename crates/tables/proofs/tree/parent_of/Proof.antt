@@ -1,7 +1,7 @@
 -- `parent_of` gives the parent of a record. Assumes nothing.
 use native.Mathlib.Omega.{arith}
 use borrow.Author.Needs.{needs}
-use Rattle.tables.specs.Tree.{parentOf}
+use Rattle.tables.specs.answers.Tree.{parentOf}
 use Rattle.tables.proofs.TreeLaws.{has, has-outside, has-late}
 use Rattle.tables.proofs.tree.parent_of.Statement.{statement}
 use Rattle.tables.proofs.tree.parent_of.Tie as tie

@@ -2,7 +2,7 @@
 use mathlib.Core.Path.{sym, _∙_}
 use borrow.Author.Tests.{eq-eqb, ne-eqb}
 use borrow.Author.Needs.{needs}
-use Rattle.topology.specs.Check.{kindFault}
+use Rattle.topology.specs.answers.Check.{kindFault}
 use Rattle.topology.proofs.kind.kind_fault.Statement.{statement}
 use Rattle.topology.proofs.kind.kind_fault.Tie as tie
 

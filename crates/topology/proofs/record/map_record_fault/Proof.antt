@@ -4,11 +4,11 @@ use Prim.Native.Nat.{_*_}
 use native.Mathlib.Omega.{arith}
 use borrow.Author.Tests.{eq-eqb}
 use borrow.Author.Needs.{needs}
-use Rattle.laws.specs.Fault.{orNumber}
+use Rattle.laws.specs.answers.Fault.{orNumber}
 use Rattle.laws.proofs.PassLaws.{or-told, or-next}
-use Rattle.tables.specs.Board.{parentWord}
+use Rattle.tables.specs.facts.Board.{parentWord}
 use Rattle.tables.proofs.CodePool.{word-zero}
-use Rattle.topology.specs.Check.{kindFault, numberFault, shapeFault, mapRecordFault}
+use Rattle.topology.specs.answers.Check.{kindFault, numberFault, shapeFault, mapRecordFault}
 use Rattle.topology.proofs.CodeLaws.{named-fault}
 use Rattle.topology.proofs.record.map_record_fault.Statement.{statement}
 use Rattle.topology.proofs.record.map_record_fault.Tie as tie

@@ -6,8 +6,8 @@ use lib.Dec.{eqb}
 use borrow.Author.Tests.{eq-eqb, ne-eqb}
 use borrow.Author.Needs.{needs}
 use Rattle.names.specs.declared.TopologyName.{TopologyName}
-use Rattle.cpumap.specs.Number.{kindNumber}
-use Rattle.topology.specs.Check.{shape, recordShape}
+use Rattle.cpumap.specs.answers.Number.{kindNumber}
+use Rattle.topology.specs.answers.Check.{shape, recordShape}
 use Rattle.topology.proofs.CodeLaws.{below-later}
 use Rattle.topology.proofs.record.record_shape.Statement.{statement}
 use Rattle.topology.proofs.record.record_shape.Tie as tie
@@ -44,8 +44,8 @@ returns-3 c =
     let map = test .before .before .before in
     rw (ne-eqb _ _ (map .before .if1 .left), ne-eqb _ _ (map .if2 .left), sym (test .before .is-below .ensures) ∙ test .if3 .taken) (c .map-record-shape .ensures)
 
-stray-fault-requires : tie.Need-stray-fault-requires
-stray-fault-requires c κs = search needs
+outside-fault-requires : tie.Need-outside-fault-requires
+outside-fault-requires c κs = search needs
 
 returns-4 : tie.Need-returns-4
 unfolding recordShape
@@ -55,7 +55,7 @@ returns-4 c =
     let map = name .before in
     rw (ne-eqb _ _ (map .before .if1 .left), ne-eqb _ _ (map .if2 .left), sym (test .before .is-below .ensures) ∙ test .if3 .left)
     (ap (λ (v : ℕ). shape v false)
-    (c .stray-fault .ensures ∙ ap (λ (n : TopologyName). cond (eqb (kindNumber n) 0) 0 18) (name .topology-name .ensures)))
+    (c .outside-fault .ensures ∙ ap (λ (n : TopologyName). cond (eqb (kindNumber n) 0) 0 18) (name .topology-name .ensures)))
 
 pub record-shape-spec : {M : Type 1} → statement M
 record-shape-spec =
@@ -68,5 +68,5 @@ record-shape-spec =
     is-below-requires
     map-record-shape-requires
     returns-3
-    stray-fault-requires
+    outside-fault-requires
     returns-4)

@@ -1,7 +1,7 @@
 -- `cluster_fault` meets its contract: 22, or else 23. Assumes nothing.
 use borrow.Author.Needs.{needs}
 use Rattle.laws.proofs.PassLaws.{or-told, or-next}
-use Rattle.topology.specs.Check.{groupFault}
+use Rattle.topology.specs.answers.Check.{groupFault}
 use Rattle.topology.proofs.shape.cluster_fault.Statement.{statement}
 use Rattle.topology.proofs.shape.cluster_fault.Tie as tie
 

@@ -4,9 +4,9 @@ use mathlib.Core.Logic.{⊎-elim}
 use Prim.Native.Nat.{_≤_, _-_}
 use native.Mathlib.Omega.{arith}
 use borrow.Author.Needs.{needs}
-use Rattle.laws.specs.Search.{countBelow}
+use Rattle.laws.specs.answers.Search.{countBelow}
 use Rattle.laws.proofs.SearchLaws.{count-yes, count-no, count-le}
-use Rattle.tables.specs.Tree.{isChild}
+use Rattle.tables.specs.answers.Tree.{isChild}
 use Rattle.topology.proofs.CodeLaws.{no-children}
 use Rattle.topology.proofs.shape.count_children.Statement.{statement}
 use Rattle.topology.proofs.shape.count_children.Tie as tie

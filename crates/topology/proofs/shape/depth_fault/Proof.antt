@@ -3,8 +3,8 @@ use mathlib.Core.Path.{ap}
 use native.Mathlib.Omega.{arith}
 use borrow.Author.Tests.{lt-ltb, le-ltb}
 use Rattle.cpumap.specs.declared.Position.{Position}
-use Rattle.cpumap.specs.Path.{clusterPath, positionOf}
-use Rattle.topology.specs.Check.{depthFault}
+use Rattle.cpumap.specs.answers.Path.{clusterPath, positionOf}
+use Rattle.topology.specs.answers.Check.{depthFault}
 use Rattle.cpumap.proofs.CodeLaws.{path-short}
 use borrow.Author.Needs.{needs}
 use Rattle.topology.proofs.shape.depth_fault.Statement.{statement}

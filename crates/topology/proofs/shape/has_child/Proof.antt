@@ -1,6 +1,6 @@
 -- `has_child` meets its contract. Assumes nothing.
 use borrow.Author.Needs.{needs}
-use Rattle.topology.specs.Check.{hasChild}
+use Rattle.topology.specs.answers.Check.{hasChild}
 use Rattle.topology.proofs.CodeLaws.{no-child}
 use Rattle.topology.proofs.shape.has_child.Statement.{statement}
 use Rattle.topology.proofs.shape.has_child.Tie as tie

@@ -2,7 +2,7 @@
 use mathlib.Core.Path.{sym, _∙_}
 use borrow.Author.Tests.{eq-eqb, ne-eqb}
 use borrow.Author.Needs.{needs}
-use Rattle.topology.specs.Check.{numberFault}
+use Rattle.topology.specs.answers.Check.{numberFault}
 use Rattle.topology.proofs.shape.number_fault.Statement.{statement}
 use Rattle.topology.proofs.shape.number_fault.Tie as tie
 

@@ -4,11 +4,11 @@ use Rattle.wellformed.proofs.CodeStages.{shape-told, nodes-told, proper
 use Rattle.wellformed.proofs.check.table_fault.Statement.{statement}
 use Rattle.wellformed.proofs.check.table_fault.Tie as tie
 
-shape-fault-requires : tie.Need-shape-fault-requires
-shape-fault-requires c κs = search needs
+size-fault-requires : tie.Need-size-fault-requires
+size-fault-requires c κs = search needs
 
 returns : tie.Need-returns
-returns c = shape-told _ (c .before .shape-fault .ensures) (c .if1 .taken)
+returns c = shape-told _ (c .before .size-fault .ensures) (c .if1 .taken)
 
 first-node-fault-requires : tie.Need-first-node-fault-requires
 first-node-fault-requires c κs = search needs
@@ -16,7 +16,7 @@ first-node-fault-requires c κs = search needs
 returns-2 : tie.Need-returns-2
 returns-2 c =
     let call = c .before .before in
-    nodes-told _ (call .before .before .shape-fault .ensures) (call .before .if1 .left) (call .first-node-fault .ensures) (c .if2 .taken)
+    nodes-told _ (call .before .before .size-fault .ensures) (call .before .if1 .left) (call .first-node-fault .ensures) (c .if2 .taken)
 
 first-property-fault-requires : tie.Need-first-property-fault-requires
 first-property-fault-requires c κs = search needs
@@ -24,13 +24,13 @@ first-property-fault-requires c κs = search needs
 returns-3 : tie.Need-returns-3
 returns-3 c =
     let call = c .before .before .before in
-    properties-told _ (call .before .before .shape-fault .ensures) (call .before .if1 .left) (call .first-node-fault .ensures) (c .before .if2 .left) (c .first-property-fault .ensures)
+    properties-told _ (call .before .before .size-fault .ensures) (call .before .if1 .left) (call .first-node-fault .ensures) (c .before .if2 .left) (c .first-property-fault .ensures)
 
 pub table-fault-spec : {M : Type 1} → statement M
 table-fault-spec =
     tie.close
     (tie.spec
-    shape-fault-requires
+    size-fault-requires
     returns
     first-node-fault-requires
     returns-2

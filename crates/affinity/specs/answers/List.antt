@@ -1,0 +1,43 @@
+-- What is answered of a list of MPIDRs: numbers 28, 29 and 30.
+use mathlib.Core.Bool.{cond}
+use mathlib.Core.List.{List}
+use Prim.Native.Nat.{ℕ}
+use lib.Dec.{eqb, ltb}
+use lib.ListN.{length, getD}
+use Rattle.laws.specs.declared.Fault.{Fault}
+use Rattle.laws.specs.answers.Fault.{told, orElse, firstFault}
+use Rattle.laws.specs.answers.Search.{isAmong}
+use Rattle.affinity.specs.declared.ListHash.{ListHash}
+use Rattle.affinity.specs.declared.ListSlot.{ListSlot}
+use Rattle.affinity.specs.answers.Level.{isAffine}
+use Rattle.affinity.specs.facts.List.{noHash}
+use Rattle.affinity.specs.answers.Hash.{hashOf, slotIn}
+
+-- 28: empty or more than 256
+abbrev pub lengthFault : ℕ → ℕ
+lengthFault n = cond (eqb n 0) 28 (cond (ltb 256 n) 28 0)
+
+-- 29: a bit outside the affinity bits
+abbrev pub bitFault : ℕ → ℕ
+bitFault mpidr = cond (isAffine mpidr) 0 29
+
+-- 29 told of the lowest index
+unfoldable pub firstOutside : List ℕ → Fault
+firstOutside list = firstFault (λ i. bitFault (getD list i 0)) (length list)
+
+-- the first of 28 and 29
+unfoldable pub listFault : List ℕ → Fault
+listFault list = orElse (told (lengthFault (length list)) 0) (firstOutside list)
+
+-- the answer to "the hash of a list": in a refusal every other result is 0
+unfoldable pub hashAnswer : List ℕ → ListHash
+hashAnswer list =
+    cond (eqb (listFault list .number) 0) (record { number = 0; place = 0; hash = hashOf list })
+    (record { number = listFault list .number; place = listFault list .place; hash = noHash })
+
+-- the answer to "one MPIDR's slot in a list": 28, 29, then 30 for an unknown one
+unfoldable pub slotAnswer : ℕ → List ℕ → ListSlot
+slotAnswer mpidr list =
+    cond (eqb (listFault list .number) 0)
+    (cond (isAmong list mpidr) (record { number = 0; place = 0; slot = slotIn list mpidr }) (record { number = 30; place = 0; slot = 0 }))
+    (record { number = listFault list .number; place = listFault list .place; slot = 0 })

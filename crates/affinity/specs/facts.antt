@@ -1,0 +1,6 @@
+-- What has to be believed: each is a fact of the papers or a word that such facts use.
+pub mod Slot
+pub mod Mask
+pub mod Hash
+pub mod Level
+pub mod List

@@ -1,0 +1,3 @@
+-- What contracts inside the crate and its proofs use.
+pub mod List
+pub mod Mask

@@ -1,0 +1,29 @@
+-- What a survey answers, and what it leaves in the lent arrays.
+use mathlib.Core.Bool.{cond}
+use mathlib.Core.Path.{_≡_}
+use mathlib.Core.List.{List}
+use Prim.Native.Nat.{ℕ}
+use lib.Dec.{eqb}
+use lib.ListN.{length}
+use Rattle.laws.specs.answers.Listed.{laidOver}
+use Rattle.tables.specs.facts.Board.{Board}
+use Rattle.cpus.specs.answers.Check.{cpuCount, cpuList, mpidrList}
+use Rattle.leaves.specs.answers.Scan.{leavesOf, namedOf}
+use Rattle.board.specs.declared.Surveyed.{Surveyed}
+use Rattle.demands.specs.answers.Survey.{surveyFault}
+
+-- a refusal: every other result is 0
+abbrev pub stopped : ℕ → ℕ → Surveyed
+stopped number place = record { number = number; place = place; cpus = 0; leaves = 0 }
+
+unfoldable pub surveyOf : Board → Surveyed
+surveyOf b =
+    let f = surveyFault b in
+    cond (eqb (f .number) 0) (record { number = 0; place = 0; cpus = cpuCount b; leaves = length (leavesOf b) }) (stopped (f .number) (f .place))
+
+-- four lent arrays, before and after: each list over what its array held
+pub record Lists (b : Board) (cpus₀ mpidrs₀ leaves₀ named₀ cpus mpidrs leaves named : List ℕ) : Type 0 where
+  pub cpus-laid : cpus ≡ laidOver (cpuList b) cpus₀
+  pub mpidrs-laid : mpidrs ≡ laidOver (mpidrList b) mpidrs₀
+  pub leaves-laid : leaves ≡ laidOver (leavesOf b) leaves₀
+  pub named-laid : named ≡ laidOver (namedOf b) named₀

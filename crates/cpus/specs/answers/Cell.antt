@@ -1,0 +1,60 @@
+-- Reading a property's value as a number of one cell or of two.
+use mathlib.Core.Bool.{Bool, false, cond}
+use mathlib.Core.List.{List}
+use Prim.Native.Nat.{ℕ, _+_, _*_, _^_}
+use lib.Dec.{eqb, leb}
+use lib.ListN.{length}
+use Rattle.affinity.specs.answers.Level.{isAffine}
+use Rattle.tables.specs.declared.Lookup.{Lookup}
+use Rattle.tables.specs.declared.Lookup.the-variants.{At, Missing}
+use Rattle.tables.specs.facts.Board.{valueOffset, valueLength}
+use Rattle.tables.specs.answers.Lookup.{lookup, cellAt}
+use Rattle.cpus.specs.declared.Cells.{Cells}
+use Rattle.cpus.specs.declared.Cells.the-variants.{One, Two}
+use Rattle.cpus.specs.declared.Value.{Value}
+use Rattle.cpus.specs.declared.Value.the-variants.{Number, Invalid}
+
+-- the bytes of one cell, or of two
+abbrev pub sizeOf : Cells → ℕ
+sizeOf One = 4
+sizeOf Two = 8
+
+-- whether property k's value lies inside the pool and has a length
+abbrev pub valueSized : List ℕ → List ℕ → ℕ → ℕ → Bool
+valueSized props pool len k = cond (eqb (valueLength props k) len) (leb (valueOffset props k + len) (length pool)) false
+
+-- the number of the cells from `at` on: the only cell, or the upper and the lower
+abbrev pub cellsAt : List ℕ → Cells → ℕ → ℕ
+cellsAt pool One at = cellAt pool at
+cellsAt pool Two at = cellAt pool at * 2 ^ 32 + cellAt pool (at + 4)
+
+-- the number that is the value of a property, if it was found and has so many cells
+abbrev pub valueIn : List ℕ → List ℕ → Cells → Lookup → Value
+valueIn props pool cells (At k) = cond (valueSized props pool (sizeOf cells) k) (Number (cellsAt pool cells (valueOffset props k))) Invalid
+valueIn props pool cells Missing = Invalid
+
+abbrev pub cellIn : List ℕ → List ℕ → Lookup → Value
+cellIn props pool found = valueIn props pool One found
+
+-- the cell that is the value of record i's property `key`
+unfoldable pub cellOf : List ℕ → List ℕ → ℕ → List ℕ → Value
+cellOf props pool i key = cellIn props pool (lookup props pool i key)
+
+-- whether a value is a given number
+abbrev pub isNumber : Value → ℕ → Bool
+isNumber (Number n) number = eqb n number
+isNumber Invalid number = false
+
+-- an MPIDR: affinity bits alone
+abbrev pub affineOnly : Value → Value
+affineOnly (Number m) = cond (isAffine m) (Number m) Invalid
+affineOnly Invalid = Invalid
+
+-- a phandle: neither 0 nor 0xFFFFFFFF
+abbrev pub phandleIn : Value → Value
+phandleIn (Number h) = cond (eqb h 0) Invalid (cond (eqb h 0xFFFFFFFF) Invalid (Number h))
+phandleIn Invalid = Invalid
+
+-- the same as a cell
+abbrev pub cpuCell : ℕ
+cpuCell = 0x63707500

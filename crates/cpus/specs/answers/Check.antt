@@ -1,0 +1,102 @@
+-- What the checks of rules 9 to 13 and of rule 17 answer.
+use mathlib.Core.Bool.{Bool, true, false, cond}
+use mathlib.Core.List.{List, map}
+use Prim.Native.Nat.{ℕ}
+use lib.Dec.{ltb, eqb}
+use Rattle.laws.specs.declared.Fault.{Fault}
+use Rattle.laws.specs.answers.Search.{countBelow, listBelow}
+use Rattle.laws.specs.facts.Limits.{maxCpus}
+use Rattle.laws.specs.answers.Fault.{told, orElse}
+use Rattle.tables.specs.facts.Binding.{cpusWord, cpuWord, cpuUnit, addressCellsKey, sizeCellsKey}
+use Rattle.tables.specs.answers.Range.{rangeIs}
+use Rattle.tables.specs.facts.Board.{Board, nodeCount, nameOffset, nameLength}
+use Rattle.tables.specs.answers.Tree.{isChild}
+use Rattle.cpus.specs.declared.Cells.the-variants.{One, Two}
+use Rattle.cpus.specs.declared.RootCells.{RootCells}
+use Rattle.cpus.specs.declared.RootCells.the-variants.{Are, Broken}
+use Rattle.cpus.specs.declared.Value.{Value}
+use Rattle.cpus.specs.declared.Value.the-variants.{Number, Invalid}
+use Rattle.cpus.specs.declared.Cells.{Cells}
+use Rattle.cpus.specs.declared.CpuNumbers.the-variants.{Mpidrs, Phandles}
+use Rattle.cpus.specs.declared.CpuReading.{CpuReading}
+use Rattle.cpus.specs.answers.Cell.{cellOf, isNumber}
+use Rattle.cpus.specs.answers.Numbers.{readingOf, firstRecord}
+
+-- whether the name of record i is `cpu` or begins `cpu@`
+unfoldable pub isCpuName : List ℕ → ℕ → ℕ → Bool
+isCpuName pool offset len = cond (rangeIs pool offset len cpuWord) true (cond (ltb len 4) false (rangeIs pool offset 4 cpuUnit))
+
+unfoldable pub isCpu : List ℕ → List ℕ → ℕ → Bool
+isCpu nodes pool i = cond (isChild nodes 0 i) (isCpuName pool (nameOffset nodes i) (nameLength nodes i)) false
+
+-- what `#address-cells` gives a board of a width: one cell, or on width 64 two
+abbrev pub cellsFor : ℕ → Value → RootCells
+cellsFor width (Number n) = cond (eqb n 1) (Are One) (cond (eqb n 2) (cond (eqb width 64) (Are Two) Broken) Broken)
+cellsFor width Invalid = Broken
+
+unfoldable pub addressCells : Board → RootCells
+addressCells b = cellsFor (b .width) (cellOf (b .props) (b .pool) 0 addressCellsKey)
+
+-- the cells of the board's `reg`s, or Broken where rule 9 is broken
+unfoldable pub soundCells : Board → RootCells
+soundCells b =
+    cond (rangeIs (b .pool) (nameOffset (b .nodes) 0) (nameLength (b .nodes) 0) cpusWord)
+    (cond (isNumber (cellOf (b .props) (b .pool) 0 sizeCellsKey) 0) (addressCells b) Broken)
+    Broken
+
+-- rule 9
+abbrev pub rootNumber : RootCells → ℕ
+rootNumber (Are cells) = 0
+rootNumber Broken = 9
+
+abbrev pub rootFault : Board → ℕ
+rootFault b = rootNumber (soundCells b)
+
+-- the cells of a `reg`; one where rule 9 is broken: what is read by it is then not told
+abbrev pub cellsOf : RootCells → Cells
+cellsOf (Are cells) = cells
+cellsOf Broken = One
+
+abbrev pub regCells : Board → Cells
+regCells b = cellsOf (soundCells b)
+
+abbrev pub cpuCount : Board → ℕ
+cpuCount b = countBelow (isCpu (b .nodes) (b .pool)) (nodeCount (b .nodes))
+
+-- rule 10
+abbrev pub countFault : ℕ → ℕ
+countFault n = cond (eqb n 0) 10 (cond (ltb maxCpus n) 10 0)
+
+-- the cpu records, rising
+abbrev pub cpuList : Board → List ℕ
+cpuList b = listBelow (isCpu (b .nodes) (b .pool)) (nodeCount (b .nodes))
+
+-- the readings of the records, looked up in the property table: their MPIDRs, and their phandles
+abbrev pub mpidrReadings : Board → ℕ → CpuReading
+mpidrReadings b = readingOf (Mpidrs (regCells b)) (b .props) (b .pool)
+
+abbrev pub phandleReadings : Board → ℕ → CpuReading
+phandleReadings b = readingOf Phandles (b .props) (b .pool)
+
+abbrev pub mpidrAt : Board → ℕ → ℕ
+mpidrAt b i = mpidrReadings b i .value
+
+-- the MPIDRs of the cpu records
+abbrev pub mpidrList : Board → List ℕ
+mpidrList b = map (mpidrAt b) (cpuList b)
+
+-- the first of rules 11 to 13 that a cpu record breaks
+abbrev pub cpuFault : Board → Fault
+cpuFault b = firstRecord (mpidrReadings b) 13 (cpuList b)
+
+-- the first of rules 9 to 13 that is broken
+unfoldable pub cpusFault : Board → Fault
+cpusFault b = orElse (told (rootFault b) 0) (orElse (told (countFault (cpuCount b)) 0) (cpuFault b))
+
+-- the first cpu record that breaks rule 17
+abbrev pub phandlesFault : Board → Fault
+phandlesFault b = firstRecord (phandleReadings b) 17 (cpuList b)
+
+-- the phandles of the cpu records
+abbrev pub phandleList : Board → List ℕ
+phandleList b = map (λ i. phandleReadings b i .value) (cpuList b)

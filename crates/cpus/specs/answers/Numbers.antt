@@ -1,0 +1,71 @@
+-- A number of each cpu record of a list, its MPIDR or its phandle, gathered in one pass over the list.
+use mathlib.Core.Bool.{cond, Bool}
+use mathlib.Core.List.{List, map}
+use Prim.Native.Nat.{ℕ}
+use lib.Dec.{eqb}
+use lib.ListN.{length, getD, take}
+use Rattle.laws.specs.declared.Fault.{Fault}
+use Rattle.laws.specs.answers.Search.{isAmong}
+use Rattle.laws.specs.answers.Listed.{laidOver, faultOfMember, membersPassed}
+use Rattle.laws.specs.answers.Fault.{firstFault}
+use Rattle.tables.specs.declared.Lookup.{Lookup}
+use Rattle.tables.specs.answers.Lookup.{lookup}
+use Rattle.property_index.specs.declared.Key.{Key}
+use Rattle.property_index.specs.declared.Key.the-variants.{Reg, Phandle, DeviceType}
+use Rattle.property_index.specs.answers.Index.{indexedAt}
+use Rattle.property_index.specs.answers.Key.{keyName}
+use Rattle.cpus.specs.declared.CpuReading.{CpuReading}
+use Rattle.cpus.specs.declared.Value.{Value}
+use Rattle.cpus.specs.declared.Value.the-variants.{Number, Invalid}
+use Rattle.cpus.specs.declared.CpuNumbers.{CpuNumbers}
+use Rattle.cpus.specs.answers.Cell.{valueIn, cellIn, isNumber, affineOnly, phandleIn, cpuCell}
+use Rattle.cpus.specs.declared.CpuNumbers.the-variants as wanted
+
+abbrev pub cpuReading : ℕ → ℕ → CpuReading
+cpuReading number value = record { number = number; value = value }
+
+-- a value's number, or the rule that is broken where it is not there
+abbrev pub numberOr : ℕ → Value → CpuReading
+numberOr rule (Number n) = cpuReading 0 n
+numberOr rule Invalid = cpuReading rule 0
+
+-- what a cpu record alone breaks, 0 where nothing, and its number, from where its properties stand
+unfoldable pub readingFrom : CpuNumbers → List ℕ → List ℕ → (Key → Lookup) → CpuReading
+readingFrom (wanted.Mpidrs cells) props pool at =
+    cond (isNumber (cellIn props pool (at DeviceType)) cpuCell) (numberOr 12 (affineOnly (valueIn props pool cells (at Reg)))) (numberOr 11 Invalid)
+readingFrom wanted.Phandles props pool at = numberOr 17 (phandleIn (cellIn props pool (at Phandle)))
+
+-- record i, by a table of keys; and looked up in the property table
+abbrev pub readingAt : CpuNumbers → List ℕ → List ℕ → List ℕ → ℕ → CpuReading
+readingAt w props pool index i = readingFrom w props pool (indexedAt index i)
+
+unfoldable pub readingOf : CpuNumbers → List ℕ → List ℕ → ℕ → CpuReading
+readingOf w props pool i = readingFrom w props pool (λ key. lookup props pool i (keyName key))
+
+-- the rule that a repeated number breaks
+abbrev pub repeatRule : CpuNumbers → ℕ
+repeatRule (wanted.Mpidrs cells) = 13
+repeatRule wanted.Phandles = 17
+
+-- a reading, refused where its number was seen
+abbrev pub unlessSeen : ℕ → Bool → CpuReading → CpuReading
+unlessSeen rule seen r = cond (eqb (r .number) 0) (cond seen (cpuReading rule (r .value)) r) r
+
+-- the records of a list, each with a reading
+module _ (r : ℕ → CpuReading) (rule : ℕ) (records : List ℕ) where
+  -- what the record at index k breaks, 0 where nothing
+  unfoldable pub listedFault : ℕ → ℕ
+  listedFault k =
+      let q = r (getD records k 0) in
+      unlessSeen rule (isAmong (map (λ i. r i .value) (take k records)) (q .value)) q .number
+
+  -- the first index at which a rule is broken, and the same told of the record
+  abbrev pub firstIndex : Fault
+  firstIndex = firstFault listedFault (length records)
+
+  unfoldable pub firstRecord : Fault
+  firstRecord = faultOfMember records firstIndex
+
+  -- a buffer after the gathering: the numbers of the records passed, over what it held
+  unfoldable pub numbersOver : List ℕ → List ℕ
+  numbersOver before = laidOver (map (λ i. r i .value) (take (membersPassed records firstIndex) records)) before

@@ -1,2 +1,0 @@
-// The limit of rule 10.
-pub const MAX_CPUS: usize = 256;

@@ -1,0 +1,171 @@
+-- Demands 1 and 3 of the definitions that the reading call's contract cites. Assumes nothing.
+use mathlib.Core.Path.{_≡_, refl, sym, _∙_}
+use mathlib.Core.Bool.{Bool, true, false}
+use mathlib.Core.Logic.{⊎-elim, _↔_}
+use mathlib.Core.List.{List}
+use Prim.Native.Nat.{ℕ, _*_, _≤_, _<_}
+use native.Mathlib.Omega.{arith}
+use lib.ListN.{length, take, drop}
+use lib.Dec.{eqb}
+use borrow.Author.Tests.{eq-eqb, ne-eqb, eqb-true, eqb-false}
+use Rattle.laws.proofs.SearchLaws.{lt-or-le}
+use Rattle.laws.proofs.RuleStageLaws.{tells-first, tells-none}
+use Rattle.layout.specs.facts.Row.{rowSize}
+use Rattle.affinity.specs.answers.Hash.{hashOf}
+use Rattle.tables.specs.facts.Board.{Board, WordSized, nodeCount}
+use Rattle.wellformed.specs.facts.Rules.{WellFormed}
+use Rattle.cpus.specs.facts.Rules.{SoundCpus, SoundPhandles}
+use Rattle.cpus.specs.answers.Check.{cpuCount, cpuList, mpidrList}
+use Rattle.cpus.proofs.CpuMeans.{cpu-listing, cpu-count}
+use Rattle.cpumap.specs.facts.Map.{Map}
+use Rattle.topology.specs.facts.Rules.{MapRule}
+use Rattle.cpumap.specs.answers.Find.{mapOf}
+use Rattle.cpumap.proofs.MapMeans.{map-of, no-map}
+use Rattle.rows.specs.facts.Fits.{Fits}
+use Rattle.rows.specs.answers.Write.{rowsBelow, written, sourceOf}
+use Rattle.rows.proofs.SourceMeans.{leafCount, LeafFacts, leaf-facts, leaf-count, mpidrs-of, hash-of}
+use Rattle.rows.proofs.FitMeans.{rows-fit}
+use Rattle.rows.proofs.FitUnique.{fits-unique}
+use Rattle.rows.proofs.SlotMeans.{slots-distinct-rows, slots-bounded}
+use Rattle.rows.proofs.WrittenLaws.{written-front, written-rest, written-length, written-row}
+use Rattle.demands.specs.declared.BoardAnswer.{BoardAnswer}
+use Rattle.demands.specs.facts.Rules.{Breaks, Told, MapBroken, Room}
+use Rattle.demands.specs.answers.Answer.{boardFault, answerOf, rowsAfter}
+use Rattle.demands.specs.facts.Reading.{slotAt, Refused, Accepted, Demands}
+use Rattle.demands.proofs.StageLaws.{breaks-staged}
+use Rattle.demands.proofs.BoardTells.{board-tells}
+
+-- the rows of a board that breaks no rule
+module _
+    {b : Board}
+    (sized : WordSized b)
+    (before : List ℕ)
+    (none : (n p : ℕ) → Breaks b (length before) n p → ⊥)
+  where
+    well : WellFormed b
+    well n p r = none n p (Breaks.tables r)
+
+    sound : SoundCpus b
+    sound n p r = none n p (Breaks.cpus r)
+
+    handles : SoundPhandles b
+    handles n p r = none n p (Breaks.phandles r)
+
+    kept : (n p : ℕ) → MapRule b n p → ⊥
+    kept n p r = none n p (Breaks.topology r)
+
+    the-map : (m : ℕ) × Map b m
+    the-map = ⊎-elim (λ lt. (mapOf (b .nodes) (b .pool), map-of b well lt)) (λ le. absurd (kept 15 0 (MapRule.cpuMapMissing (no-map b well le)))) (lt-or-le (mapOf (b .nodes) (b .pool)) (nodeCount (b .nodes)))
+
+    room : rowSize * cpuCount b ≤ length before
+    room = ⊎-elim (λ lt. absurd (none 27 0 (Breaks.rowSpace (cpuList b) (cpu-listing well) (rw (cpu-count b) at lt)))) (λ le. le) (lt-or-le (length before) (rowSize * cpuCount b))
+
+    leaves : LeafFacts b
+    leaves = leaf-facts sized well sound handles (the-map .1) kept
+
+    same : leafCount b ≡ cpuCount b
+    same = leaf-count sized well sound handles (the-map .1) kept
+
+    has-room : rowSize * leafCount b ≤ length before
+    has-room = omega (arith, same, room)
+
+    abbrev after : List ℕ
+    after = written (sourceOf b) before
+
+    fits : Fits b (take (rowSize * cpuCount b) after)
+    fits = rw (← same, written-front (sourceOf b) before has-room) (rows-fit sized well sound (the-map .1) kept leaves)
+
+    slot-at : (k : ℕ) → k < cpuCount b → slotAt after k ≡ slotAt (rowsBelow (sourceOf b) (leafCount b)) k
+    slot-at k lt = rw (written-row (sourceOf b) before has-room k (rw same lt))
+
+    distinct : (j k : ℕ) → j < cpuCount b → k < cpuCount b → slotAt after j ≡ slotAt after k → j ≡ k
+    distinct j k lj lk e = slots-distinct-rows sized well sound leaves j k (rw same lj) (rw same lk) (sym (slot-at j lj) ∙ e ∙ slot-at k lk)
+
+    rest : drop (rowSize * cpuCount b) after ≡ drop (rowSize * cpuCount b) before
+    rest = rw (← same) (written-rest (sourceOf b) before has-room)
+
+    rows-accepted : Accepted b before (record { number = 0; place = 0; count = cpuCount b; hash = hashOf (mpidrList b) }) after
+    rows-accepted =
+        record {
+          place = refl;
+          fits = fits;
+          only = λ rows h. fits-unique sized well sound handles kept h fits;
+          rest = rest;
+          size = written-length (sourceOf b) before has-room;
+          count = (cpuList b, cpu-listing well, cpu-count b);
+          hash = (mpidrList b, mpidrs-of sized well sound, hash-of sized well sound);
+          distinct = distinct;
+          bounded = λ k lt. rw (slot-at k lt) (slots-bounded sized well sound leaves k (rw same lt));
+        }
+
+module _ {b : Board} (sized : WordSized b) (before : List ℕ) where
+  abbrev number : ℕ
+  number = boardFault b (length before) .number
+
+  abbrev answer : BoardAnswer
+  answer = answerOf b (length before)
+
+  abbrev buffer : List ℕ
+  buffer = rowsAfter b before
+
+  first-told : (number ≡ 0 → ⊥) → Told b (length before) number (boardFault b (length before) .place)
+  first-told ne =
+      let tells = board-tells sized (length before) in
+      record { first = tells-first (λ n p. breaks-staged) tells ne; staged = tells .told ne .broken .2 }
+
+  refusal : (number ≡ 0 → ⊥) → Refused b before answer buffer
+  unfolding answerOf rowsAfter
+  refusal ne =
+      rw (ne-eqb number 0 ne)
+      (record { first = first-told ne; count = refl; hash = refl; buffer = refl })
+
+  none : number ≡ 0 → (n p : ℕ) → Breaks b (length before) n p → ⊥
+  none = tells-none (λ n p. breaks-staged) (board-tells sized (length before))
+
+  acceptance : number ≡ 0 → Accepted b before answer buffer
+  unfolding answerOf rowsAfter
+  acceptance z = rw (eq-eqb number 0 z) (rows-accepted sized before (none z))
+
+  -- the answer's number is that of the fault
+  answer-number : answer .number ≡ number
+  unfolding answerOf
+  answer-number = go (eqb number 0) refl
+    where
+      go : (t : Bool) → eqb number 0 ≡ t → answer .number ≡ number
+      go true e = rw e (sym (eqb-true number 0 e))
+      go false e = rw e
+
+  -- a map rule is broken where some rule is, none of them being one of the other layers
+  map-broken : WellFormed b → SoundCpus b → Room b (length before) → (n p : ℕ) → Breaks b (length before) n p → MapBroken b
+  map-broken well sound room n p (Breaks.tables r) = absurd (well n p r)
+  map-broken well sound room n p (Breaks.cpus r) = absurd (sound n p r)
+  map-broken well sound room n p (Breaks.phandles r) = MapBroken.phandle r
+  map-broken well sound room n p (Breaks.topology r) = MapBroken.map r
+  map-broken well sound room n p (Breaks.rowSpace cpus l lt) = absurd (room (Breaks.rowSpace cpus l lt))
+
+  exactly : WellFormed b → SoundCpus b → Room b (length before) → (number ≡ 0) ↔ (((m : ℕ) × Map b m) × (MapBroken b → ⊥))
+  exactly well sound room =
+      (λ z. (the-map sized before (none z), unbroken z), λ t. go (eqb number 0) refl (t .1))
+    where
+      unbroken : number ≡ 0 → MapBroken b → ⊥
+      unbroken z (MapBroken.map r) = none z _ _ (Breaks.topology r)
+      unbroken z (MapBroken.phandle r) = none z _ _ (Breaks.phandles r)
+
+      go : (t : Bool) → eqb number 0 ≡ t → (MapBroken b → ⊥) → number ≡ 0
+      go true e no-rule = eqb-true number 0 e
+      go false e no-rule =
+          absurd (no-rule (map-broken well sound room _ _ (first-told (eqb-false number 0 e) .first .broken)))
+
+  -- the claim
+  pub demands : Demands b before answer buffer
+  demands =
+      record {
+        refused = λ ne. refusal (λ z. ne (answer-number ∙ z));
+        sound = λ z. none (sym answer-number ∙ z);
+        reading = λ well sound room.
+            record {
+              exactly = rw answer-number (exactly well sound room);
+              refused = λ ne. refusal (λ z. ne (answer-number ∙ z));
+              accepted = λ z. acceptance (sym answer-number ∙ z);
+            };
+      }

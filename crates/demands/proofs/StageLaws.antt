@@ -1,0 +1,65 @@
+-- The broken rules layer by layer, in the order of their stages. Assumes nothing.
+use mathlib.Core.Logic.{⊎-elim}
+use mathlib.Core.List.{List}
+use Prim.Native.Nat.{ℕ, _*_, _<_}
+use native.Mathlib.Omega.{arith}
+use lib.ListN.{length}
+use Rattle.laws.specs.facts.Listing.{Listing}
+use Rattle.laws.proofs.RuleStageLaws.{Split}
+use Rattle.layout.specs.facts.Row.{rowSize}
+use Rattle.tables.specs.facts.Board.{Board}
+use Rattle.wellformed.specs.facts.Order.{stages, stage}
+use Rattle.wellformed.specs.facts.Rules.{TableRule}
+use Rattle.wellformed.proofs.RuleLaws.{rule-staged}
+use Rattle.cpus.specs.facts.Node.{Cpu}
+use Rattle.cpus.specs.facts.Rules.{CpuRule, PhandleRule}
+use Rattle.cpus.proofs.RuleMeans as cpus
+use Rattle.topology.specs.facts.Rules.{MapRule}
+use Rattle.topology.proofs.RuleCases as topology
+use Rattle.demands.specs.facts.Rules.{Breaks}
+
+module _ (b : Board) (room : ℕ) where
+  -- rule 27
+  pub data RoomRule : ℕ → ℕ → Type 0 where
+    noRoom : (cpus : List ℕ) → Listing (Cpu b) cpus → room < rowSize * length cpus → RoomRule 27 0
+
+  -- the layers, and the stages from which the next begins
+  abbrev pub Layers : ℕ → ℕ → Type 0
+  Layers =
+      Split stage (stage 9) (TableRule b)
+      (Split stage (stage 15) (CpuRule b)
+      (Split stage (stage 17) (MapRule b) (Split stage (stage 18) (PhandleRule b) (Split stage (stage 27) (MapRule b) RoomRule))))
+
+module _ {b : Board} {room : ℕ} where
+  pub from-layers : {n p : ℕ} → Layers b room n p → Breaks b room n p
+  from-layers (Split.early r _) = Breaks.tables r
+  from-layers (Split.late (Split.early r _) _) = Breaks.cpus r
+  from-layers (Split.late (Split.late (Split.early r _) _) _) = Breaks.topology r
+  from-layers (Split.late (Split.late (Split.late (Split.early r _) _) _) _) = Breaks.phandles r
+  from-layers (Split.late (Split.late (Split.late (Split.late (Split.early r _) _) _) _) _) = Breaks.topology r
+  from-layers (Split.late (Split.late (Split.late (Split.late (Split.late (RoomRule.noRoom cpus l lt) _) _) _) _) _) = Breaks.rowSpace cpus l lt
+
+  pub to-layers : {n p : ℕ} → Breaks b room n p → Layers b room n p
+  to-layers (Breaks.tables r) = Split.early r (rule-staged b r)
+  to-layers (Breaks.cpus r) = let t = cpus.cpu-staged (cpus.staged r) in Split.late (Split.early r (t .1)) (t .0)
+  to-layers (Breaks.phandles r) =
+      let t = cpus.phandle-staged r in
+      Split.late (Split.late (Split.late (Split.early r (t .1)) (t .0)) (omega (arith, t .0))) (omega (arith, t .0))
+  to-layers (Breaks.topology r) =
+      ⊎-elim (λ t. Split.late (Split.late (Split.early r (t .1)) (t .0)) (omega (arith, t .0)))
+      (λ t.
+      Split.late (Split.late (Split.late (Split.late (Split.early r (t .1)) (t .0)) (omega (arith, t .0))) (omega (arith, t .0)))
+      (omega (arith, t .0)))
+      (topology.map-staged (topology.staged r))
+  to-layers (Breaks.rowSpace cpus l lt) =
+      Split.late
+      (Split.late (Split.late (Split.late (Split.late (RoomRule.noRoom cpus l lt) (omega arith)) (omega arith)) (omega arith)) (omega arith))
+      (omega arith)
+
+  -- the number of every broken rule stands in a stage
+  pub breaks-staged : {n p : ℕ} → Breaks b room n p → stage n < length stages
+  breaks-staged (Breaks.tables r) = omega (arith, rule-staged b r)
+  breaks-staged (Breaks.cpus r) = omega (arith, cpus.cpu-staged (cpus.staged r) .1)
+  breaks-staged (Breaks.phandles r) = omega (arith, cpus.phandle-staged r .1)
+  breaks-staged (Breaks.topology r) = ⊎-elim (λ t. omega (arith, t .1)) (λ t. omega (arith, t .1)) (topology.map-staged (topology.staged r))
+  breaks-staged (Breaks.rowSpace _ _ _) = omega arith

@@ -1,0 +1,44 @@
+-- What the reader answers, and what it leaves in the row buffer.
+use mathlib.Core.Bool.{cond}
+use mathlib.Core.List.{List}
+use Prim.Native.Nat.{ℕ, _*_}
+use lib.Dec.{ltb, eqb}
+use lib.ListN.{length}
+use Rattle.laws.specs.declared.Fault.{Fault}
+use Rattle.laws.specs.answers.Fault.{told, orElse}
+use Rattle.layout.specs.facts.Row.{rowSize}
+use Rattle.affinity.specs.facts.List.{noHash}
+use Rattle.affinity.specs.answers.Hash.{hashOf}
+use Rattle.tables.specs.facts.Board.{Board}
+use Rattle.cpus.specs.answers.Check.{cpuCount, mpidrList}
+use Rattle.rows.specs.answers.Write.{Source, written, sourceOf}
+use Rattle.demands.specs.declared.BoardAnswer.{BoardAnswer}
+use Rattle.demands.specs.answers.Survey.{surveyFault}
+
+-- rule 27
+abbrev pub roomFault : ℕ → ℕ → ℕ
+roomFault room cpus = cond (ltb room (rowSize * cpus)) 27 0
+
+-- the first of rules 1 to 27 that is broken
+unfoldable pub boardFault : Board → ℕ → Fault
+boardFault b room = orElse (surveyFault b) (told (roomFault room (cpuCount b)) 0)
+
+-- a refusal: every other result is 0
+abbrev pub refusedWith : ℕ → ℕ → BoardAnswer
+refusedWith number place = record { number = number; place = place; count = 0; hash = noHash }
+
+-- what is answered where a fault is told, or where none is: how many cpu records there are, and the hash of their MPIDRs
+abbrev pub answerBy : Fault → ℕ → List ℕ → BoardAnswer
+answerBy f count mpidrs =
+    cond (eqb (f .number) 0) (record { number = 0; place = 0; count = count; hash = hashOf mpidrs }) (refusedWith (f .number) (f .place))
+
+-- the row buffer afterwards: with the rows where no fault is told
+abbrev pub rowsBy : Fault → Source → List ℕ → List ℕ
+rowsBy f s before = cond (eqb (f .number) 0) (written s before) before
+
+unfoldable pub answerOf : Board → ℕ → BoardAnswer
+answerOf b room = answerBy (boardFault b room) (cpuCount b) (mpidrList b)
+
+-- the row buffer after the call
+unfoldable pub rowsAfter : Board → List ℕ → List ℕ
+rowsAfter b before = rowsBy (boardFault b (length before)) (sourceOf b) before

@@ -1,0 +1,16 @@
+-- The first of rules 1 to 26 that is broken.
+use Rattle.laws.specs.declared.Fault.{Fault}
+use Rattle.laws.specs.answers.Fault.{orElse}
+use Rattle.tables.specs.facts.Board.{Board}
+use Rattle.wellformed.specs.answers.Check.{tableFault}
+use Rattle.cpus.specs.answers.Check.{cpuList, cpusFault, phandlesFault}
+use Rattle.cpumap.specs.answers.Find.{mapFault}
+use Rattle.leaves.specs.answers.Scan.{leavesFault, treeOf}
+
+-- the first of rules 1 to 26 that is broken
+unfoldable pub surveyFault : Board → Fault
+surveyFault b =
+    orElse (tableFault b)
+    (orElse (cpusFault b)
+    (orElse (mapFault (b .nodes) (b .pool))
+    (orElse (phandlesFault b) (leavesFault (treeOf b) (cpuList b)))))

@@ -1,0 +1,35 @@
+-- All rules of 01's table, 1 to 27: the number and the place of each broken one.
+use mathlib.Core.List.{List}
+use Prim.Native.Nat.{ℕ, _*_, _<_}
+use lib.ListN.{length}
+use Rattle.laws.specs.facts.Listing.{Listing}
+use Rattle.laws.specs.facts.First.{First}
+use Rattle.layout.specs.facts.Row.{rowSize}
+use Rattle.tables.specs.facts.Board.{Board}
+use Rattle.wellformed.specs.facts.Rules.{TableRule}
+use Rattle.wellformed.specs.facts.Order.{stages, stage}
+use Rattle.cpus.specs.facts.Node.{Cpu}
+use Rattle.cpus.specs.facts.Rules.{CpuRule, PhandleRule}
+use Rattle.topology.specs.facts.Rules.{MapRule}
+
+-- a rule is broken at a place, for a board and a row buffer of so many words
+pub data Breaks (b : Board) (room : ℕ) : ℕ → ℕ → Type 0 where
+  tables : {n p : ℕ} → TableRule b n p → Breaks b room n p
+  cpus : {n p : ℕ} → CpuRule b n p → Breaks b room n p
+  phandles : {n p : ℕ} → PhandleRule b n p → Breaks b room n p
+  topology : {n p : ℕ} → MapRule b n p → Breaks b room n p
+  rowSpace : (cpus : List ℕ) → Listing (Cpu b) cpus → room < rowSize * length cpus → Breaks b room 27 0
+
+-- the broken rule that 01's order tells; its number stands in one of the stages
+pub record Told (b : Board) (room n p : ℕ) : Type 0 where
+  pub first : First stage (Breaks b room) n p
+  pub staged : stage n < length stages
+
+-- a map rule is broken: 15, 16, 18 to 26 of the map, or 17 of the phandles that its leaves name
+pub data MapBroken (b : Board) : Type 0 where
+  map : {n p : ℕ} → MapRule b n p → MapBroken b
+  phandle : {n p : ℕ} → PhandleRule b n p → MapBroken b
+
+-- room for twelve words for each cpu record
+abbrev pub Room : Board → ℕ → Type 0
+Room b room = Breaks b room 27 0 → ⊥

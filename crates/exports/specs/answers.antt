@@ -1,0 +1,5 @@
+-- What public contracts equate their results with.
+pub mod Answer
+pub mod Board
+pub mod List
+pub mod Tables

@@ -1,3 +1,0 @@
--- What the contracts of `keys` cite.
-pub mod Key
-pub mod Index

@@ -1,0 +1,6 @@
+-- What public contracts equate their results with.
+pub mod FromDigits
+pub mod Fault
+pub mod Listed
+pub mod Same
+pub mod Search

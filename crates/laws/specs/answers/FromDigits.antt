@@ -1,0 +1,7 @@
+-- A number from its binary digits.
+use Prim.Native.Nat.{ℕ, zero, suc, _+_, _*_, _^_}
+
+-- the number with the given digits below n
+unfoldable pub fromDigits : (ℕ → ℕ) → ℕ → ℕ
+fromDigits d zero = 0
+fromDigits d (suc n) = fromDigits d n + d n * 2 ^ n

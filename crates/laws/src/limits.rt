@@ -1,0 +1,22 @@
+// The limits of the rules.
+
+// Node records of a board, of which there is at least one.
+pub const MAX_NODES: usize = 1024;
+
+// Property records of a board.
+pub const MAX_PROPERTIES: usize = 4096;
+
+// Bytes of a board's pool.
+pub const MAX_POOL: usize = 65536;
+
+// Bytes of a node's name.
+pub const MAX_NODE_NAME: usize = 64;
+
+// Bytes of a property's name.
+pub const MAX_PROPERTY_NAME: usize = 31;
+
+// The parent word of record 0.
+pub const NO_PARENT: usize = 0xFFFFFFFF;
+
+// Cpu records of a board, and MPIDRs of a list.
+pub const MAX_CPUS: usize = 256;

@@ -1,0 +1,88 @@
+// The table of keys: for each of the first 1,024 records and each key, 0 or one more than the number of the property.
+use crate::INDEX_WORDS;
+use crate::KEYS;
+use crate::Key;
+use crate::name::key_number;
+use crate::name::key_of;
+use laws::limits::MAX_NODES;
+use laws::limits::MAX_PROPERTIES;
+use tables::Lookup;
+use tables::wide;
+ghost use mathlib.Core.Path.{_≡_};
+ghost use Prim.Native.Nat.{_<_, min};
+ghost use Rattle.property_index.specs.answers.Index.{noted, notedKey, indexed, indexedAt};
+
+// Notes property k at a place where none is noted.
+fn note(table: &mut [u16; INDEX_WORDS], at: usize, k: usize)
+    requires { ⌜ (at < 4096) × (k < 65535) ⌝ }
+    ensures { λ _. ⌜ now (table .exit) ≡ noted (now (table .entry)) at k ⌝ }
+{
+    if table[at] == 0 {
+        table[at] = (k + 1) as u16;
+    }
+}
+
+// Notes property k of a record, if its name is a key.
+fn note_key(
+    table: &mut [u16; INDEX_WORDS],
+    pool: &[u8],
+    node: usize,
+    offset: usize,
+    len: usize,
+    k: usize,
+)
+    requires { ⌜ k < 65535 ⌝ }
+    ensures { λ _. ⌜ now (table .exit) ≡ notedKey (now (table .entry)) (now (pool .entry)) node offset len k ⌝ }
+{
+    if MAX_NODES <= node {
+        return;
+    }
+    let key = key_of(pool, offset, len);
+    if key < KEYS {
+        note(table, KEYS * node + key, k);
+    }
+}
+
+fn fewer(a: usize, b: usize) -> usize
+    ensures { λ r. ⌜ r ≡ min a b ⌝ }
+{
+    if a < b {
+        return a;
+    }
+    b
+}
+
+// Notes in a table, made of zeros, where the keys of each record stand.
+pub fn index_properties(props: &[u32], pool: &[u8], table: &mut [u16; INDEX_WORDS])
+    ensures { λ _. ⌜ now (table .exit) ≡ indexed (now (table .entry)) (now (props .entry)) (now (pool .entry)) ⌝ }
+{
+    let n = fewer(props.len() / 5, MAX_PROPERTIES);
+    let mut k: usize = 0;
+    while k < n {
+        let at = 5 * k;
+        note_key(
+            table,
+            pool,
+            wide(props[at]),
+            wide(props[at + 1]),
+            wide(props[at + 2]),
+            k,
+        );
+        k += 1;
+    }
+}
+
+// Where the property that is a key of record i stands.
+pub fn find_indexed(table: &[u16; INDEX_WORDS], i: usize, key: Key) -> Lookup
+    ensures { λ r. ⌜ r ≡ indexedAt (now (table .entry)) i key ⌝ }
+{
+    let words = &table[..];
+    if MAX_NODES <= i {
+        return Lookup::Missing;
+    }
+    let noted = words[KEYS * i + key_number(key)] as usize;
+    if noted == 0 {
+        return Lookup::Missing;
+    }
+    Lookup::At(noted - 1)
+}

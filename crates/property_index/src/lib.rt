@@ -1,0 +1,20 @@
+// The properties that are looked up for many records: where each stands, noted in one pass over the property table.
+mod index;
+mod name;
+
+pub use index::find_indexed;
+pub use index::index_properties;
+
+// The properties that are looked up.
+pub enum Key {
+    Reg,
+    Cpu,
+    Phandle,
+    DeviceType,
+}
+
+// How many keys there are.
+const KEYS: usize = 4;
+
+// The words of a table of keys: four for each of 1,024 records.
+pub const INDEX_WORDS: usize = 4096;

@@ -1,0 +1,3 @@
+-- What public contracts equate their results with.
+pub mod Leaf
+pub mod Write

@@ -1,0 +1,4 @@
+-- What public contracts equate their results with.
+pub mod Range
+pub mod Lookup
+pub mod Tree

@@ -1,0 +1,5 @@
+-- What has to be believed: each is a fact of the papers or a word that such facts use.
+pub mod Board
+pub mod Property
+pub mod Tree
+pub mod Binding

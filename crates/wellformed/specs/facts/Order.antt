@@ -1,0 +1,27 @@
+-- The order in which broken rules are told (01, "Numbers told, in order of checking"): by stage, then place, then number.
+use mathlib.Core.List.{List, [], _∷_}
+use Prim.Native.Nat.{ℕ}
+use Rattle.laws.specs.facts.First.{stageIn}
+
+-- the stages in order, each with its numbers
+abbrev pub stages : List (List ℕ)
+stages =
+    (1 ∷ [])
+    ∷ (2 ∷ [])
+    ∷ (3 ∷ [])
+    ∷ (4 ∷ [])
+    ∷ (5 ∷ 6 ∷ [])
+    ∷ (7 ∷ 8 ∷ [])
+    ∷ (9 ∷ [])
+    ∷ (10 ∷ [])
+    ∷ (11 ∷ 12 ∷ 13 ∷ [])
+    ∷ (15 ∷ [])
+    ∷ (16 ∷ [])
+    ∷ (17 ∷ [])
+    ∷ (18 ∷ 19 ∷ 20 ∷ 21 ∷ 22 ∷ 23 ∷ 24 ∷ 25 ∷ [])
+    ∷ (26 ∷ [])
+    ∷ (27 ∷ [])
+    ∷ []
+
+abbrev pub stage : ℕ → ℕ
+stage = stageIn stages
