@@ -1,114 +1,165 @@
-//! The worked boards as the program `cases` reads them, and what it has to
-//! write of them as the second reader has it.
+//! What the program `cases` reads, and what it has to write as the second
+//! reader has it.
 
 use crate::answer::Answer;
-use crate::build::cases::{all, Case};
+use crate::build::cases::{boards, lists, Case, List, NAMES};
 use crate::compare::second_tables;
-use crate::second;
-use std::fmt::Write;
+use crate::second::{self, Kind};
+use std::fmt::{Display, Write};
 
-const GAP: u32 = u32::MAX;
 const ROW_WORDS: usize = 12;
 
-/// The longest label that the program takes.
-const LABEL_BYTES: usize = 64;
+/// The kinds of cases.
+const BOARD: u32 = 0;
+const LIST: u32 = 1;
+const NAME: u32 = 2;
 
-/// More rows than this are shown by the first, the last and a checksum.
-const SHOWN_WHOLE: usize = 20;
+/// What is asked of a list.
+const HASH: u32 = 0;
+const SLOT: u32 = 1;
 
-/// Little-endian words: the number of boards, and the boards.
-pub fn input() -> Vec<u8> {
-    let cases = all();
-    let mut bytes = Vec::new();
-    put(&mut bytes, cases.len());
-    for case in &cases {
-        put_case(&mut bytes, case);
+/// The longest text and the longest name that the program takes.
+const TEXT_BYTES: usize = 96;
+
+/// What each word of a row buffer is before a board is read.
+const UNTOUCHED: u32 = 9;
+
+/// The rows that are lent to a board that is refused.
+const REFUSED_ROWS: usize = 6;
+
+/// The files stdin and stdout of the program. The texts between the numbers
+/// stand in both.
+#[derive(Default)]
+pub struct Files {
+    pub input: Vec<u8>,
+    pub output: String,
+}
+
+/// The number of cases, the cases, and the end of the last line.
+pub fn files() -> Files {
+    let (boards, lists) = (boards(), lists());
+    let asked: usize = lists.iter().map(|list| 1 + list.asked.len()).sum();
+    let mut files = Files::default();
+    files.word((boards.len() + asked + NAMES.len()) as u32);
+    lists.iter().for_each(|list| files.list(list));
+    NAMES.iter().for_each(|name| files.name(name));
+    boards.iter().for_each(|board| files.board(board));
+    files.text("\n");
+    files
+}
+
+impl Files {
+    fn word(&mut self, word: u32) {
+        self.input.extend(word.to_be_bytes());
     }
-    bytes
-}
 
-fn put(bytes: &mut Vec<u8>, number: usize) {
-    let word = u32::try_from(number).expect("a word holds it");
-    bytes.extend(word.to_le_bytes());
-}
-
-/// The label and its length, the tables, then the width and how much of each
-/// table and of the row buffer is lent.
-fn put_case(bytes: &mut Vec<u8>, (label, board): &Case) {
-    assert!(label.len() <= LABEL_BYTES, "{label}");
-    put_bytes(bytes, label.as_bytes());
-    put(bytes, label.len());
-    put_words(bytes, &board.nodes);
-    put_words(bytes, &board.props);
-    put_bytes(bytes, &board.pool);
-    put(bytes, board.width as usize);
-    put(bytes, board.nodes.len());
-    put(bytes, board.props.len());
-    put(bytes, board.pool.len());
-    put(bytes, board.room);
-}
-
-/// The length of a table without the zeros at its end, which are not stored.
-fn stored<T: PartialEq + Default>(table: &[T]) -> usize {
-    let last = table.iter().rposition(|item| *item != T::default());
-    last.map_or(0, |at| at + 1)
-}
-
-fn put_words(bytes: &mut Vec<u8>, words: &[u32]) {
-    let words = &words[..stored(words)];
-    put(bytes, words.len());
-    bytes.extend(words.iter().flat_map(|word| word.to_le_bytes()));
-}
-
-fn put_bytes(bytes: &mut Vec<u8>, pool: &[u8]) {
-    let pool = &pool[..stored(pool)];
-    put(bytes, pool.len());
-    bytes.extend(pool);
-}
-
-/// What is written of all boards.
-pub fn output() -> String {
-    let mut text = String::new();
-    for (label, board) in all() {
-        let (answer, rows) = second::read(&second_tables(&board));
-        write!(text, "{label}: ").expect("a string takes it");
-        show(&mut text, &answer, &rows).expect("a string takes it");
+    fn words(&mut self, words: &[u32]) {
+        self.word(words.len() as u32);
+        words.iter().for_each(|&word| self.word(word));
     }
-    text
-}
 
-fn show(text: &mut String, answer: &Answer, rows: &[u32]) -> std::fmt::Result {
-    if answer.number != 0 {
-        let Answer { number, place, .. } = answer;
-        return writeln!(text, "refused {number} at {place}, rows untouched");
+    fn bytes(&mut self, bytes: &[u8]) {
+        self.word(bytes.len() as u32);
+        self.input.extend(bytes);
     }
-    let [a, b, c, d] = answer.shifts;
-    writeln!(
-        text,
-        "count {}, mask {:#x}, shifts {a} {b} {c} {d}, bits {}, words after the rows untouched",
-        answer.count, answer.mask, answer.bits
-    )?;
-    let all: Vec<&[u32]> = rows.chunks(ROW_WORDS).collect();
-    if let ([first, .., last], true) = (&all[..], all.len() > SHOWN_WHOLE) {
-        show_row(text, first)?;
-        show_row(text, last)?;
-        return writeln!(text, " checksum {}", checksum(rows));
-    }
-    all.iter().try_for_each(|row| show_row(text, row))
-}
 
-/// A gap is shown as such in the words that may have one.
-fn show_row(text: &mut String, row: &[u32]) -> std::fmt::Result {
-    for (at, &word) in row.iter().enumerate() {
-        match (at, word) {
-            (4..=10, GAP) => write!(text, " -")?,
-            _ => write!(text, " {word}")?,
+    fn mpidr(&mut self, mpidr: u64) {
+        self.input.extend(mpidr.to_be_bytes());
+    }
+
+    fn text(&mut self, text: &str) {
+        assert!(text.len() <= TEXT_BYTES, "{text}");
+        self.bytes(text.as_bytes());
+        self.output.push_str(text);
+    }
+
+    /// A text, and what the program writes behind it.
+    fn told(&mut self, text: &str, number: impl Display) {
+        self.text(text);
+        write!(self.output, "{number}").expect("a string takes it");
+    }
+
+    /// The same on a line of its own.
+    fn line(&mut self, text: &str, number: impl Display) {
+        let end = if self.output.is_empty() { "" } else { "\n" };
+        self.told(&format!("{end}{text}"), number);
+    }
+
+    fn hash(&mut self, answer: &Answer) {
+        let [a, b, c, d] = answer.shifts;
+        self.told(", mask 0x", format!("{:x}", answer.mask));
+        self.told(", shifts ", a);
+        [b, c, d].iter().for_each(|shift| self.told(" ", shift));
+        self.told(", bits ", answer.bits);
+    }
+
+    /// Its hash, and each slot that is asked in it.
+    fn list(&mut self, list: &List) {
+        let answer = second::list_hash(&list.mpidrs);
+        self.question(list, HASH);
+        self.line(&format!("{}: number ", list.label), answer.number);
+        self.told(", place ", answer.place);
+        self.hash(&answer);
+        for &mpidr in &list.asked {
+            let answer = second::list_slot(mpidr, &list.mpidrs);
+            self.question(list, SLOT);
+            self.mpidr(mpidr);
+            self.line(
+                &format!("{}, {mpidr:#x}: number ", list.label),
+                answer.number,
+            );
+            self.told(", place ", answer.place);
+            self.told(", slot ", answer.count);
         }
     }
-    writeln!(text)
-}
 
-fn checksum(words: &[u32]) -> u32 {
-    let mix = |sum: u32, word: &u32| sum.wrapping_mul(31).wrapping_add(*word);
-    words.iter().fold(0, mix)
+    fn question(&mut self, list: &List, asked: u32) {
+        self.word(LIST);
+        self.word(list.mpidrs.len() as u32);
+        list.mpidrs.iter().for_each(|&mpidr| self.mpidr(mpidr));
+        self.word(asked);
+    }
+
+    fn name(&mut self, (label, name): &(&str, &str)) {
+        let (kind, number) = match second::topology_name(name.as_bytes()) {
+            Some((Kind::Socket, number)) => (1, number),
+            Some((Kind::Cluster, number)) => (2, number),
+            Some((Kind::Core, number)) => (3, number),
+            Some((Kind::Thread, number)) => (4, number),
+            None => (0, 0),
+        };
+        self.word(NAME);
+        self.bytes(name.as_bytes());
+        self.line(&format!("{label}, {name}: kind "), kind);
+        self.told(", number ", number);
+    }
+
+    /// The tables, the row buffer before it is read, and the width. Behind the
+    /// answer stands the buffer: rows on lines of their own, or all that a
+    /// refusal has to leave as it was.
+    fn board(&mut self, (label, board): &Case) {
+        let (answer, mut rows) = second::read(&second_tables(board));
+        let accepted = answer.number == 0;
+        let lent = if accepted {
+            answer.count as usize + 1
+        } else {
+            REFUSED_ROWS
+        };
+        let room = board.room.min(lent * ROW_WORDS);
+        self.word(BOARD);
+        self.words(&board.nodes);
+        self.words(&board.props);
+        self.bytes(&board.pool);
+        self.words(&vec![UNTOUCHED; room]);
+        self.word(board.width);
+        self.line(&format!("{label}: number "), answer.number);
+        self.told(", place ", answer.place);
+        self.told(", count ", answer.count);
+        self.hash(&answer);
+        rows.resize(room, UNTOUCHED);
+        for (at, word) in rows.iter().enumerate() {
+            let starts = at == 0 || accepted && at % ROW_WORDS == 0;
+            self.told(if starts { "\n " } else { " " }, word);
+        }
+    }
 }

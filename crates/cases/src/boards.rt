@@ -1,56 +1,47 @@
-// The boards of standard input, each read by the library.
-use crate::answer;
+// Boards.
 use crate::input;
 use crate::say;
-use crate::table::UNTOUCHED;
+use demands::BoardAnswer;
 
-// The first word is the number of boards.
-pub fn all() {
-    let mut left = input::word();
-    while left > 0 {
-        label();
-        one();
-        left -= 1;
-    }
+// Room for a record or a row more than the limits allow.
+fn table() -> [u32; 20485] {
+    [0; 20485]
 }
 
-fn label() {
-    let mut bytes = [0u8; 64];
-    input::bytes(&mut bytes);
-    letters(&bytes);
+// Room for a byte more than the limit allows.
+fn pool() -> [u8; 65537] {
+    [0; 65537]
 }
 
-fn letters(label: &[u8]) {
-    let count = input::count_bytes(label);
-    say::text(&label[..count]);
-    say::text(b": ");
+// The node words and the property words.
+pub fn board() {
+    let mut nodes = table();
+    let n = input::words(&mut nodes);
+    let mut props = table();
+    let p = input::words(&mut props);
+    lend(&nodes[..n], &props[..p]);
 }
 
-// The buffers hold a record, a property, a byte and a row more than the limits allow.
-fn one() {
-    let mut nodes = [0u32; 3075];
-    let mut props = [0u32; 20485];
-    let mut pool = [0u8; 65537];
-    let mut rows = [UNTOUCHED; 3084];
-    input::words(&mut nodes);
-    input::words(&mut props);
-    input::bytes(&mut pool);
-    read(&nodes, &props, &pool, &mut rows);
+// The pool, and what the row buffer holds before the board is read.
+fn lend(nodes: &[u32], props: &[u32]) {
+    let mut pool = pool();
+    let b = input::bytes(&mut pool);
+    let mut rows = table();
+    let r = input::words(&mut rows);
+    read(nodes, props, &pool[..b], &mut rows[..r]);
 }
 
-// Lends the library as much of each table as the input says, and shows what it answers.
+// The width. All words of the row buffer are written behind the answer.
 fn read(nodes: &[u32], props: &[u32], pool: &[u8], rows: &mut [u32]) {
     let width = input::word();
-    let n = input::count_words(nodes);
-    let p = input::count_words(props);
-    let b = input::count_bytes(pool);
-    let room = input::count_words(rows);
-    let answer = board::read_tables(
-        width,
-        &nodes[..n],
-        &props[..p],
-        &pool[..b],
-        &mut rows[..room],
-    );
-    answer::show(answer, rows);
+    show(board::read_tables(width, nodes, props, pool, rows));
+    say::words(rows);
+}
+
+fn show(answer: BoardAnswer) {
+    let hash = answer.hash;
+    say::told(answer.number as u64);
+    say::told(answer.place as u64);
+    say::told(answer.count as u64);
+    say::hash(hash);
 }

@@ -30,8 +30,9 @@ module _ {b : Board} (sized : WordSized b) (well : WellFormed b) where
   cpu-stage a =
       record {
         inside = λ m q r e. cpu-broken well (rw e at (staged r)) .0;
-        sound = λ q _ none. broken (cpu-says sized well a q none);
-        least = λ q _ none m r e. cpu-broken well (rw e at (staged r)) .1 (cpuFaultAt b q) (cpu-says sized well a q none);
+        smallest = λ q _ none.
+            let says = cpu-says sized well a q none in
+            record { sound = broken says; least = λ m r e. cpu-broken well (rw e at (staged r)) .1 (cpuFaultAt b q) says };
       }
     where
       broken : {q v : ℕ} → CpuSays b q v → (v ≡ 0 → ⊥) → CpuRule b v q × (stage v ≡ stage 11)

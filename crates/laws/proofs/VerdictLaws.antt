@@ -1,9 +1,9 @@
 -- The number told of one rule, and a stage of one rule. Assumes nothing.
 use mathlib.Core.Path.{_≡_, refl}
-use Prim.Native.Nat.{ℕ, zero, suc, _≤_, _<_}
+use Prim.Native.Nat.{ℕ, zero, suc, _<_}
 use native.Mathlib.Omega.{arith}
 use Rattle.laws.specs.answers.Fault.{told, firstFault}
-use Rattle.laws.proofs.FirstLaws.{Tells, Stage, stage-tells}
+use Rattle.laws.proofs.FirstLaws.{Tells, Smallest, Stage, stage-tells}
 
 -- the number told of rule n at a place: 0 where P holds, and n where the rule is broken
 pub data Verdict (R : ℕ → ℕ → Type 0) (n p : ℕ) (P : Type 0) : ℕ → Type 0 where
@@ -22,20 +22,11 @@ module _ (stage : ℕ → ℕ) (R : ℕ → ℕ → Type 0) (n : ℕ) (pos : 0 <
       ((m q : ℕ) → R m q → stage m ≡ stage n → (m ≡ n) × (q < count) × (P q → ⊥)) →
       ((q : ℕ) → q < count → ((k : ℕ) → k < q → f k ≡ 0) → Verdict R n q (P q) (f q)) →
       Stage stage R (stage n) count f
-  number-stage P only verdict =
-      record {
-        inside = λ m q r e. only m q r e .1;
-        sound = λ q lt clean. broken (verdict q lt clean);
-        least = λ q lt clean m r e. let t = only m q r e in least (verdict q lt clean) (t .2) (t .0);
-      }
+  number-stage P only verdict = record { inside = λ m q r e. only m q r e .1; smallest = λ q lt clean. smallest (verdict q lt clean) }
     where
-      broken : {q v : ℕ} → Verdict R n q (P q) v → (v ≡ 0 → ⊥) → R v q × (stage v ≡ stage n)
-      broken (Verdict.sound _) ne = absurd (ne refl)
-      broken (Verdict.broken r) ne = (r, refl)
-
-      least : {q v m : ℕ} → Verdict R n q (P q) v → (P q → ⊥) → m ≡ n → (v ≡ 0 → ⊥) × (v ≤ m)
-      least (Verdict.sound p) none e = absurd (none p)
-      least (Verdict.broken r) none e = (λ z. omega arith, omega arith)
+      smallest : {q v : ℕ} → Verdict R n q (P q) v → Smallest stage R (stage n) q v
+      smallest {q} (Verdict.sound p) = record { sound = λ ne. absurd (ne refl); least = λ m r e. absurd (only m q r e .2 p) }
+      smallest {q} (Verdict.broken r) = record { sound = λ _. (r, refl); least = λ m x e. let t = only m q x e .0 in (λ z. omega arith, omega arith) }
 
   -- .. that is told of place 0 alone
   pub once-tells :

@@ -8,8 +8,9 @@ use native.Mathlib.Omega.{arith}
 use lib.ListN.{length}
 use Rattle.laws.proofs.SearchLaws.{true-false, below-suc}
 use Rattle.laws.proofs.DecideLaws.{eq-decides, holds-unless}
+use Rattle.laws.proofs.FirstLaws.{Smallest}
 use Rattle.laws.proofs.LeastLaws.{Tested, Least, least-one, least-then}
-use Rattle.laws.proofs.LeastStageLaws.{least-told, least-longer, least-lower}
+use Rattle.laws.proofs.LeastStageLaws.{least-told, least-longer, smallest-run}
 use Rattle.tables.specs.facts.Board.{Board, WordSized, nodeCount}
 use Rattle.wellformed.specs.facts.Order.{stage}
 use Rattle.wellformed.specs.facts.Rules.{WellFormed}
@@ -49,7 +50,7 @@ module _ {b : Board} (sized : WordSized b) (well : WellFormed b) (sound : SoundC
     Rule n = MapRule b n i
 
     abbrev Told : ℕ → Type 0
-    Told v = Least Rule 18 25 v
+    Told v = Smallest stage (MapRule b) (stage 18) i v
 
     earlier : (k : ℕ) → k < i → check t k .number ≡ 0
     earlier k l = fault-check t k (clean k l)
@@ -63,22 +64,25 @@ module _ {b : Board} (sized : WordSized b) (well : WellFormed b) (sound : SoundC
       shapes =
           record-told b well (root-nameless b sound) m is-map i in-map (λ k l s. check-shape t k (in-map-under is-map k s) (earlier k l))
 
-      from-18 : {v : ℕ} → Least Rule 19 25 v → Told v
-      from-18 h = least-lower (omega arith) h (λ n r. below-told b m is-map n i in-map r)
+      in-stage : {v : ℕ} → Least Rule 19 25 v → Told v
+      in-stage = smallest-run stage (MapRule b) (stage 18) (λ n. below-told b m is-map in-map) (λ n r. tree-stage (staged r))
 
       inner-told : shapeNumber t i ≡ 0 → leafName t i ≡ false → Told 0
-      inner-told z f = from-18 (least-longer (omega arith) (rw z at shapes) (λ n. no-leaf-rule (λ l. true-false (leaf-name well i l) f)))
+      inner-told z f = in-stage (least-longer (omega arith) (rw z at shapes) (λ n. no-leaf-rule (λ l. true-false (leaf-name well i l) f)))
 
       nameless-told : shapeNumber t i ≡ 0 → leafName t i ≡ true → length (t .phandles) ≤ named t i → Told 24
       nameless-told z f le =
-          from-18 (least-told (omega arith) (least-then Rule 19 23 24 0 24 (omega arith) (omega arith) (rw z at shapes) (least-one Rule 24 (omega arith) (Tested.broken broken))) (λ q. omega arith))
+          in-stage
+          (least-told (omega arith)
+          (least-then Rule 19 23 24 0 24 (omega arith) (omega arith) (rw z at shapes) (least-one Rule 24 (omega arith) (Tested.broken broken)))
+          (λ q. omega arith))
         where
           broken : MapRule b 24 i
           broken = MapRule.cpuMapPhandle i (name-leaf well i in-map f) (names-none sized well handles i le)
 
       leaf-told : shapeNumber t i ≡ 0 → named t i < length (t .phandles) → check t i .number ≡ 0 → Told (repeatFault t i)
       leaf-told z lt e =
-          from-18
+          in-stage
           (least-then Rule 19 24 25 0 (repeatFault t i) (omega arith) (omega arith)
           (least-then Rule 19 23 24 0 0 (omega arith) (omega arith) (rw z at shapes)
           (least-one Rule 24 (omega arith) (Tested.sound (λ r. rule-24 r .1 _ (index-names sized well handles i lt)))))
@@ -98,7 +102,7 @@ module _ {b : Board} (sized : WordSized b) (well : WellFormed b) (sound : SoundC
         go (Checked.top e a) = answer 0 a (rw e (root-told b m is-map))
         go (Checked.map n e a) = answer (groupFault (b .nodes) i) a (rw e (map-told b well m is-map))
         go (Checked.outside n k e a) = answer (outsideNumber t i) a (outside-told b well m is-map i (omega arith) lt (outside-is b m is-map i k e))
-        go (Checked.misshapen u n a) = answer (shapeNumber t i) a (from-18 u (least-told (omega arith) (shapes u) n))
+        go (Checked.misshapen u n a) = answer (shapeNumber t i) a (in-stage u (least-told (omega arith) (shapes u) n))
         go (Checked.inner u z f a) = answer 0 a (inner-told u z f)
         go (Checked.nameless u z f le a) = answer 24 a (nameless-told u z f le)
         go (Checked.leaf u z f k a) = let e = ap (λ (r : RecordCheck). r .number) a in rw (check-fault t i e) (leaf-told u z k e)
@@ -110,7 +114,7 @@ module _ {b : Board} (sized : WordSized b) (well : WellFormed b) (sound : SoundC
       next : (n : ℕ) → ((k : ℕ) → k < n → k < count → treeFault t k ≡ 0) → n < count → treeFault t n ≡ 0
       next n below lt =
           holds-unless (eq-decides (treeFault t n) 0)
-          (λ ne. let w = tree-least n (λ k l. below k l (omega arith)) lt .sound ne in none _ n (w .0) (tree-stage (staged (w .0)) (w .1) (w .2) .0))
+          (λ ne. let w = tree-least n (λ k l. below k l (omega arith)) lt .sound ne in none _ n (w .0) (w .1))
 
       up-to : (n k : ℕ) → k < n → k < count → treeFault t k ≡ 0
       up-to zero k l = absurd (omega arith)

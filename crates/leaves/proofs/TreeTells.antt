@@ -10,7 +10,6 @@ use Rattle.laws.proofs.ListedLaws.{first-listed}
 use Rattle.laws.proofs.FirstLaws.{Tells, Stage, stage-tells}
 use Rattle.laws.proofs.RuleStageLaws.{else-place, then-tells}
 use Rattle.laws.proofs.VerdictLaws.{number-stage}
-use Rattle.laws.proofs.LeastStageLaws.{least-stage}
 use Rattle.tables.specs.facts.Board.{Board, WordSized, nodeCount}
 use Rattle.wellformed.specs.facts.Order.{stage}
 use Rattle.wellformed.specs.facts.Rules.{WellFormed}
@@ -18,7 +17,7 @@ use Rattle.cpus.specs.facts.Rules.{SoundCpus, SoundPhandles}
 use Rattle.cpus.specs.answers.Check.{isCpu, cpuList}
 use Rattle.cpumap.specs.facts.Map.{Map}
 use Rattle.topology.specs.facts.Rules.{MapRule}
-use Rattle.topology.proofs.RuleCases.{Staged, staged, tree-place, place-range, tree-stage}
+use Rattle.topology.proofs.RuleCases.{Staged, staged, place, place-inside}
 use Rattle.leaves.specs.answers.Scan.{Tree, treeAt, namedBelow, treeFault, leavesFault}
 use Rattle.leaves.proofs.LeafRules.{unmappedFault, unmapped-told}
 use Rattle.leaves.proofs.TreeLeast.{sound-checks, tree-least}
@@ -49,9 +48,7 @@ module _ {b : Board} (sized : WordSized b) (well : WellFormed b) (sound : SoundC
   -- the stage of rules 18 to 25, and that of rule 26
   records-stage : Stage stage (MapRule b) (stage 18) count (treeFault t)
   records-stage =
-      least-stage stage (MapRule b) (stage 18) 18 25 (λ n p r e. place-range (tree-place (rw e at (staged r))))
-      (λ n p r l h. tree-stage (staged r) l h .0)
-      (λ i lt clean. tree-least sized well sound handles is-map i clean lt)
+      record { inside = λ n p r e. place-inside (place r e); smallest = λ i lt clean. tree-least sized well sound handles is-map i clean lt }
 
   unmapped-broken : {n p : ℕ} → Staged b (stage 26) n p → MapRule b n p → (n ≡ 26) × (p < count) × ((MapRule b 26 p → ⊥) → ⊥)
   unmapped-broken (Staged.unmapped cpu) r = (refl, cpu .child .inside, λ none. none r)

@@ -5,10 +5,12 @@ use mathlib.Core.Logic.{⊎-elim}
 use Prim.Native.Nat.{ℕ, _≤_, _<_}
 use native.Mathlib.Omega.{arith}
 use lib.Dec.{eqb}
-use Rattle.laws.proofs.LeastLaws.{Least, least-none, least-only}
+use Rattle.laws.proofs.FirstLaws.{Smallest}
+use Rattle.laws.proofs.LeastStageLaws.{smallest-none, smallest-only}
 use Rattle.laws.proofs.DecideLaws.{eq-decides}
 use Rattle.laws.proofs.TestedLaws.{tested-unless}
 use Rattle.tables.specs.facts.Board.{Board, nodeCount}
+use Rattle.wellformed.specs.facts.Order.{stage}
 use Rattle.wellformed.specs.facts.Rules.{WellFormed}
 use Rattle.cpumap.specs.facts.Map.{Map, InMap, Outside}
 use Rattle.cpumap.specs.answers.Path.{topologyName}
@@ -16,37 +18,34 @@ use Rattle.topology.specs.facts.Rules.{MapRule}
 use Rattle.cpumap.specs.answers.Number.{kindNumber}
 use Rattle.topology.specs.answers.Check.{groupFault}
 use Rattle.cpumap.proofs.NameFacts.{kind-number-zero, topology-other, topology-cases}
-use Rattle.topology.proofs.RuleCases.{Place, staged, tree-stage}
+use Rattle.topology.proofs.RuleCases.{Place, place}
 use Rattle.cpumap.proofs.MapMeans.{map-unique, map-not-below, in-map-later, outside-not-map, outside-not-below}
 use Rattle.topology.proofs.RecordMeans.{group-tested}
 
-place : {b : Board} {n i : ℕ} → MapRule b n i → 18 ≤ n → n ≤ 25 → Place b n i
-place r low high = tree-stage (staged r) low high .1
-
 module _ (b : Board) (m : ℕ) (map : Map b m) where
   -- record 0 breaks none of them
-  pub root-told : Least (λ n. MapRule b n 0) 18 25 0
-  root-told = least-none (λ n. MapRule b n 0) 18 25 (λ n r low high. go (place r low high))
+  pub root-told : Smallest stage (MapRule b) (stage 18) 0 0
+  root-told = smallest-none stage (MapRule b) (stage 18) (λ n r e. go (place r e))
     where
       go : {n : ℕ} → Place b n 0 → ⊥
       go (Place.outside _ _ pos _ _ _) = omega arith
       go (Place.theMap _ s) = omega (arith, s .child .earlier)
       go (Place.inMap _ _ t) = omega (arith, in-map-later b m map 0 t)
 
-  -- a record below the map does not break rule 18
-  pub below-told : (n i : ℕ) → InMap b i → MapRule b n i → 18 ≤ n → n ≤ 25 → 19 ≤ n
-  below-told n i t r low high = go (place r low high)
+  -- a record below the map breaks no other of them than 19 to 25
+  pub below-told : {n i : ℕ} → InMap b i → MapRule b n i → stage n ≡ stage 18 → (19 ≤ n) × (n ≤ 25)
+  below-told {n} {i} t r e = go (place r e)
     where
-      go : Place b n i → 19 ≤ n
+      go : Place b n i → (19 ≤ n) × (n ≤ 25)
       go (Place.outside _ _ _ _ out _) = absurd (outside-not-below b m map i out t)
-      go (Place.theMap e _) = omega arith
-      go (Place.inMap l _ _) = l
+      go (Place.theMap q _) = omega arith
+      go (Place.inMap l h _) = (l, h)
 
 module _ (b : Board) (well : WellFormed b) (m : ℕ) (map : Map b m) where
   -- the map can break rule 23 alone
-  pub map-told : Least (λ n. MapRule b n m) 18 25 (groupFault (b .nodes) m)
+  pub map-told : Smallest stage (MapRule b) (stage 18) m (groupFault (b .nodes) m)
   map-told =
-      least-only (λ n. MapRule b n m) 23 18 25 (omega arith) (omega arith) (omega arith) (λ n r low high. go (place r low high)) (group-tested b well m (MapRule.cpuMapEmpty m map))
+      smallest-only stage (MapRule b) (stage 18) 23 (omega arith) refl (λ n r e. go (place r e)) (group-tested b well m (MapRule.cpuMapEmpty m map))
     where
       go : {n : ℕ} → Place b n m → n ≡ 23
       go (Place.outside _ _ _ _ out _) = absurd (outside-not-map b m map m out refl)
@@ -54,9 +53,14 @@ module _ (b : Board) (well : WellFormed b) (m : ℕ) (map : Map b m) where
       go (Place.inMap _ _ t) = absurd (map-not-below b m map t)
 
   -- a record outside the map can break rule 18 alone
-  pub outside-told : (i : ℕ) → 0 < i → i < nodeCount (b .nodes) → Outside b i → Least (λ n. MapRule b n i) 18 25 (cond (eqb (kindNumber (topologyName (b .nodes) (b .pool) i)) 0) 0 18)
+  pub outside-told :
+      (i : ℕ) →
+      0 < i →
+      i < nodeCount (b .nodes) →
+      Outside b i →
+      Smallest stage (MapRule b) (stage 18) i (cond (eqb (kindNumber (topologyName (b .nodes) (b .pool) i)) 0) 0 18)
   outside-told i pos lt out =
-      least-only (λ n. MapRule b n i) 18 18 25 (omega arith) (omega arith) (omega arith) (λ n r low high. go (place r low high))
+      smallest-only stage (MapRule b) (stage 18) 18 (omega arith) refl (λ n r e. go (place r e))
       (tested-unless keeps breaks (eq-decides (kindNumber (topologyName (b .nodes) (b .pool) i)) 0))
     where
       go : {n : ℕ} → Place b n i → n ≡ 18

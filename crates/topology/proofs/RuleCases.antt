@@ -56,20 +56,22 @@ module _ {b : Board} where
   map-staged (Staged.tree _) = inr (omega arith)
   map-staged (Staged.unmapped _) = inr (omega arith)
 
-  -- the stage of rules 18 to 25 ..
-  pub tree-place : {n i : ℕ} → Staged b (stage 18) n i → Place b n i
+  -- the stage of rules 18 to 25: its places, and all its numbers below the map
+  tree-place : {n i : ℕ} → Staged b (stage 18) n i → Place b n i
   tree-place (Staged.tree p) = p
 
-  pub place-range : {n i : ℕ} → Place b n i → (18 ≤ n) × (n ≤ 25) × (i < nodeCount (b .nodes))
-  place-range (Place.outside e _ _ lt _ _) = omega arith
-  place-range (Place.theMap e map) = omega (arith, map .child .inside)
-  place-range (Place.inMap l h t) = omega (arith, in-map-inside t)
+  pub place : {n i : ℕ} → MapRule b n i → stage n ≡ stage 18 → Place b n i
+  place r e = tree-place (rw e at (staged r))
 
-  -- .. has all these numbers
-  pub tree-stage : {s n i : ℕ} → Staged b s n i → 18 ≤ n → n ≤ 25 → (s ≡ stage 18) × Place b n i
+  pub place-inside : {n i : ℕ} → Place b n i → i < nodeCount (b .nodes)
+  place-inside (Place.outside _ _ _ lt _ _) = lt
+  place-inside (Place.theMap _ map) = map .child .inside
+  place-inside (Place.inMap _ _ t) = in-map-inside t
+
+  pub tree-stage : {s n i : ℕ} → Staged b s n i → 19 ≤ n → n ≤ 25 → s ≡ stage 18
   tree-stage (Staged.noMap _) l h = absurd (omega arith)
   tree-stage (Staged.secondMap _) l h = absurd (omega arith)
-  tree-stage (Staged.tree p) l h = (refl, p)
+  tree-stage (Staged.tree _) l h = refl
   tree-stage (Staged.unmapped _) l h = absurd (omega arith)
 
   -- what rules 22 and 23 say of the record

@@ -112,7 +112,7 @@ module _ (b : Board) where
   the-stage : (s : ℕ) → ((q : ℕ) → q < placesOf s → Broken b s q (faultOf s q)) → Tells stage (TableRule b) s (suc s) (each s)
   the-stage s h =
       stage-tells stage (TableRule b) s (placesOf s) (faultOf s)
-      (record { inside = λ m q r e. at r e .0; sound = λ q lt _. h q lt; least = λ q lt _ m r e. at r e .1 })
+      (record { inside = λ m q r e. at r e .0; smallest = λ q lt _. record { sound = h q lt; least = λ m r e. at r e .1 } })
     where
       at : {m q : ℕ} → TableRule b m q → stage m ≡ s → (q < placesOf s) × Seen m (faultOf s q)
       at {m} {q} r e = subst (λ (x : ℕ). (q < placesOf x) × Seen m (faultOf x q)) e (all-seen r)

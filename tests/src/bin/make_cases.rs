@@ -1,5 +1,4 @@
-//! Writes the worked boards for the program `cases`, and prints what it has to
-//! write of them.
+//! Writes what the program `cases` reads, and prints what it has to write.
 //!
 //! make_cases FILE
 
@@ -12,9 +11,10 @@ fn main() {
         eprintln!("usage: make_cases FILE");
         exit(2);
     };
-    if let Err(error) = std::fs::write(&file, cases::input()) {
+    let files = cases::files();
+    if let Err(error) = std::fs::write(&file, files.input) {
         eprintln!("{file}: {error}");
         exit(1);
     }
-    print!("{}", cases::output());
+    print!("{}", files.output);
 }

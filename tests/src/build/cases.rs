@@ -1,4 +1,4 @@
-//! The boards that the program `cases` runs, each with a label.
+//! What the program `cases` runs, each with a label: boards, lists and names.
 
 use super::faults::{faults, with_faults};
 use super::shapes::{fill_up, regular_board};
@@ -7,12 +7,64 @@ use super::{cell, Board, Node};
 
 pub type Case = (String, Board);
 
+/// A list of MPIDRs.
+pub struct List {
+    pub label: &'static str,
+    pub mpidrs: Vec<u64>,
+    /// The MPIDRs whose slots are asked.
+    pub asked: Vec<u64>,
+}
+
+/// N1 to N6.
+pub const NAMES: [(&str, &str); 6] = [
+    ("N1", "cluster0"),
+    ("N2", "core10"),
+    ("N3", "core01"),
+    ("N4", "thread"),
+    ("N5", "socket9999"),
+    ("N6", "socket10000"),
+];
+
+/// H1 to H7, with the slots of all MPIDRs; then what is refused, and the limit.
+pub fn lists() -> Vec<List> {
+    let whole = |label, mpidrs: Vec<u64>| List {
+        label,
+        asked: mpidrs.clone(),
+        mpidrs,
+    };
+    let one = |label, mpidrs, asked| List {
+        label,
+        mpidrs,
+        asked: vec![asked],
+    };
+    let example_1 = (0..16).map(worked::example_1_mpidr).collect();
+    let example_2 = [0x000, 0x100].iter().flat_map(|at| *at..at + 4).collect();
+    vec![
+        whole("H1", vec![0x0]),
+        whole("H2", example_1),
+        whole("H3", example_2),
+        whole("H4", vec![0x2, 0x80]),
+        whole("H5", (0xF00..0xF04).collect()),
+        whole("H6", vec![0x0, 0xFF_00FF_FFFF]),
+        whole("H7", vec![0x0, 0x5]),
+        one("a bit outside", vec![0x0, 0x100_0000], 0x0),
+        one(
+            "an unknown MPIDR on a listed one's slot",
+            vec![0x0, 0x1],
+            0x1_0001,
+        ),
+        one("no MPIDR", vec![], 0x0),
+        one("256 MPIDRs", (0..256).collect(), 0xFF),
+        one("257 MPIDRs", (0..257).collect(), 0x100),
+    ]
+}
+
 fn case(label: &str, width: u32, root: &Node) -> Case {
     (label.to_string(), Board::of(width, root))
 }
 
-/// All cases, in the order in which they are run.
-pub fn all() -> Vec<Case> {
+/// All boards, in the order in which they are run.
+pub fn boards() -> Vec<Case> {
     let groups = [worked_boards(), allowed(), slips(), limits(), rules()];
     groups.into_iter().flatten().collect()
 }
@@ -90,13 +142,9 @@ fn limits() -> Vec<Case> {
         fill_up(&mut root, records, 0);
         cases.push(case(label, 64, &root));
     }
+    cases.extend(property_limits());
+    cases.extend(name_limits());
     let small = Board::of(64, &worked::whole_case());
-    // The added properties are all zeros, which rule 7 refuses.
-    for (label, props) in [("4,096 properties", 4096), ("4,097 properties", 4097)] {
-        let mut board = small.clone();
-        board.props.resize(5 * props, 0);
-        cases.push((label.to_string(), board));
-    }
     for (label, bytes) in [("65,536 bytes", 65536), ("65,537 bytes", 65537)] {
         let mut board = small.clone();
         board.pool.resize(bytes, 0);
@@ -107,6 +155,28 @@ fn limits() -> Vec<Case> {
         cases.push((label.to_string(), Board { room, ..board }));
     }
     cases
+}
+
+/// 4,096 sound properties, and the same with one more behind them.
+fn property_limits() -> [Case; 2] {
+    let mut root = regular_board(2);
+    fill_up(&mut root, 100, 4096);
+    let most = case("4,096 properties", 64, &root);
+    let last = root.count() - 1;
+    root.at(last).set("one-more", []);
+    [most, case("4,097 properties", 64, &root)]
+}
+
+/// The longest names, and those of a byte more.
+fn name_limits() -> Vec<Case> {
+    let of_record = |bytes| worked::whole_case().child(Node::new("n".repeat(bytes)));
+    let of_property = |bytes: usize| worked::whole_case().with(&"p".repeat(bytes), []);
+    vec![
+        case("a name of 64 bytes", 64, &of_record(64)),
+        case("a name of 65 bytes", 64, &of_record(65)),
+        case("a property name of 31 bytes", 64, &of_property(31)),
+        case("a property name of 32 bytes", 64, &of_property(32)),
+    ]
 }
 
 /// Every number told, each for one change to a sound board.

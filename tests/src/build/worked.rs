@@ -42,7 +42,7 @@ pub fn whole_case() -> Node {
 }
 
 /// The MPIDR of cpu node `at` of example 1.
-fn example_1_mpidr(at: u64) -> u64 {
+pub fn example_1_mpidr(at: u64) -> u64 {
     (at & 1) | (at >> 1 & 1) << 8 | (at >> 2 & 1) << 16 | (at >> 3) << 32
 }
 

@@ -9,7 +9,7 @@ mod tables;
 pub use hash::{list_hash, list_slot};
 pub use rows::read;
 pub use rules::{stage_of, told};
-pub use tables::Tables;
+pub use tables::{topology_name, Kind, Tables};
 
 use crate::answer::Answer;
 

@@ -182,11 +182,7 @@ impl<'a> Tables<'a> {
 
     /// Kind and number of a record with a topology name.
     pub fn topology(&self, record: usize) -> Option<(Kind, u32)> {
-        let name = self.name(record)?;
-        KINDS.iter().find_map(|(word, kind)| {
-            let digits = name.strip_prefix(*word)?;
-            Some((*kind, number(digits)?))
-        })
+        topology_name(self.name(record)?)
     }
 
     pub fn kind(&self, record: usize) -> Option<Kind> {
@@ -214,6 +210,14 @@ impl<'a> Tables<'a> {
         let named = |&&cpu: &&usize| self.value(cpu, b"phandle") == Some(asked);
         self.cpus().iter().find(named).copied()
     }
+}
+
+/// Kind and number of a topology name.
+pub fn topology_name(name: &[u8]) -> Option<(Kind, u32)> {
+    KINDS.iter().find_map(|(word, kind)| {
+        let digits = name.strip_prefix(*word)?;
+        Some((*kind, number(digits)?))
+    })
 }
 
 /// 1 to 4 decimal digits, no leading zero except `0` itself.
