@@ -1,6 +1,6 @@
 #!/usr/bin/env bash
-# All tests: every crate proved from nothing, every must-fail edit refused, every program run;
-# then the programs in Rust and C that call the archive. The last line is that of `rt ci`,
+# All tests: every crate proved from nothing, every must-fail edit refused, every program run; facts
+# that use no computed definition; then the programs in Rust and C that call the archive. The last line is that of `rt ci`,
 # whose whole output is kept in target/ci.log. Nothing is installed before the proofs are done.
 set -euo pipefail
 cd "$(dirname "$0")/.."
@@ -26,6 +26,9 @@ mkdir -p target
 mv "$log" target/ci.log
 took "proofs and must-fail edits"
 [ "$status" -eq 0 ] || exit "$status"
+
+./scripts/statements.sh
+took "facts that stand by themselves"
 
 ./scripts/setup.sh
 took "installing"
