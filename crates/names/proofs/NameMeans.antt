@@ -7,7 +7,7 @@ use Rattle.names.specs.declared.TopologyName.{TopologyName}
 use Rattle.names.specs.declared.TopologyName.the-variants.{Socket, Cluster, Core, Thread, Other}
 use Rattle.names.specs.declared.Number.{Number}
 use Rattle.names.specs.declared.Number.the-variants.{Decimal, NotDecimal}
-use Rattle.names.specs.facts.Kind.{Kind, word, Named}
+use Rattle.names.specs.facts.Kind.{Kind, word, Named, Says}
 use Rattle.names.specs.answers.Name.{namedAs, withNumber, nameOf}
 use Rattle.names.specs.steps.Name.{numberAfter}
 use Rattle.names.proofs.DecimalLaws.{not-is}
@@ -79,3 +79,14 @@ other-means name = (
 -- a name gives one kind and one number
 pub named-unique : {name : List ℕ} {k j : Kind} {n m : ℕ} → Named name k n → Named name j m → (k ≡ j) × (n ≡ m)
 named-unique {name} {k} {j} {n} {m} p q = answered-same k j n m (sym (named-name p) ∙ named-name q)
+
+-- what the reader says of a name
+pub name-says : {name : List ℕ} {r : TopologyName} → r ≡ nameOf name → (r ≡ nameOf name) × Says name r
+name-says {name} {r} e = (e, go r e)
+  where
+    go : (x : TopologyName) → x ≡ nameOf name → Says name x
+    go (Socket n) q = Says.socket (name-named name Kind.socket n (sym q))
+    go (Cluster n) q = Says.cluster (name-named name Kind.cluster n (sym q))
+    go (Core n) q = Says.core (name-named name Kind.core n (sym q))
+    go (Thread n) q = Says.thread (name-named name Kind.thread n (sym q))
+    go Other q = Says.none (other-means name .0 (sym q))

@@ -2,6 +2,7 @@
 ghost use mathlib.Core.Path.{_≡_};
 ghost use Prim.Native.Nat.{_≤_};
 ghost use lib.ListN.{length};
+ghost use Rattle.names.specs.facts.Kind.{Says};
 ghost use Rattle.names.specs.answers.Name.{startsWith, numberOf, nameOf};
 ghost use Rattle.names.specs.steps.Name.{numberAfter};
 
@@ -81,7 +82,8 @@ fn number_after(name: &[u8], word: &[u8]) -> Number
 
 // What a name says. No two of the words begin the same name.
 pub fn name_of(name: &[u8]) -> TopologyName
-    ensures { λ r. ⌜ r ≡ nameOf (now (name .entry)) ⌝ }
+    ensures answer { λ r. ⌜ r ≡ nameOf (now (name .entry)) ⌝ }
+    ensures says { λ r. ⌜ Says (now (name .entry)) r ⌝ }
 {
     if let Number::Decimal(n) = number_after(name, b"socket") {
         return TopologyName::Socket(n);

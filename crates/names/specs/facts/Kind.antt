@@ -4,6 +4,8 @@ use mathlib.Core.Bool.{cond}
 use mathlib.Core.Path.{_≡_}
 use Prim.Native.Nat.{ℕ, zero, suc, _+_, _/_, _%_, _<_}
 use lib.Dec.{ltb}
+use Rattle.names.specs.declared.TopologyName.{TopologyName}
+use Rattle.names.specs.declared.TopologyName.the-variants.{Socket, Cluster, Core, Thread, Other}
 
 pub data Kind : Type 0 where
   socket cluster core thread : Kind
@@ -28,3 +30,11 @@ decimal n = decimalIn 4 n
 pub record Named (name : List ℕ) (kind : Kind) (n : ℕ) : Type 0 where
   pub small : n < 10000
   pub bytes : name ≡ word kind ++ decimal n
+
+-- what the reader says of a name: the kind and the number that it gives, or that it gives none
+pub data Says (name : List ℕ) : TopologyName → Type 0 where
+  socket : {n : ℕ} → Named name Kind.socket n → Says name (Socket n)
+  cluster : {n : ℕ} → Named name Kind.cluster n → Says name (Cluster n)
+  core : {n : ℕ} → Named name Kind.core n → Says name (Core n)
+  thread : {n : ℕ} → Named name Kind.thread n → Says name (Thread n)
+  none : ((kind : Kind) (n : ℕ) → Named name kind n → ⊥) → Says name Other

@@ -40,7 +40,7 @@ name-of-requires : tie.Need-name-of-requires
 name-of-requires c κs = search needs
 
 returns-4 : tie.Need-returns-4
-returns-4 c = let words = c .before .before .before .before in c .name-of .ensures ∙ name-read _ _ _ (omega arith) (words .before .node-word .ensures) (words .node-word2 .ensures) (omega arith)
+returns-4 c = let words = c .before .before .before .before in c .name-of .ensures .0 ∙ name-read _ _ _ (omega arith) (words .before .node-word .ensures) (words .node-word2 .ensures) (omega arith)
 
 pub topology-name-spec : {M : Type 1} → statement M
 topology-name-spec =
