@@ -4,6 +4,7 @@ use mathlib.Core.List.{List}
 use Prim.Native.Nat.{ℕ}
 use lib.Dec.{eqb, ltb}
 use lib.ListN.{length, getD}
+use Rattle.laws.specs.facts.Limits.{maxCpus}
 use Rattle.laws.specs.declared.Fault.{Fault}
 use Rattle.laws.specs.answers.Fault.{told, orElse, firstFault}
 use Rattle.laws.specs.answers.Search.{isAmong}
@@ -15,7 +16,7 @@ use Rattle.affinity.specs.answers.Hash.{hashOf, slotIn}
 
 -- 28: empty or more than 256
 abbrev pub lengthFault : ℕ → ℕ
-lengthFault n = cond (eqb n 0) 28 (cond (ltb 256 n) 28 0)
+lengthFault n = cond (eqb n 0) 28 (cond (ltb maxCpus n) 28 0)
 
 -- 29: a bit outside the affinity bits
 abbrev pub bitFault : ℕ → ℕ

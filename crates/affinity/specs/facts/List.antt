@@ -4,6 +4,7 @@ use mathlib.Core.Path.{_≡_}
 use Prim.Native.Nat.{ℕ, _<_}
 use lib.ListN.{length, getD}
 use Rattle.laws.specs.facts.Listing.{Member}
+use Rattle.laws.specs.facts.Limits.{maxCpus}
 use Rattle.laws.specs.facts.First.{stageIn, First}
 use Rattle.affinity.specs.declared.Hash.{Hash}
 use Rattle.affinity.specs.declared.ListHash.{ListHash}
@@ -18,7 +19,7 @@ noHash = record { mask = 0; shifts = 0 ∷ 0 ∷ 0 ∷ 0 ∷ []; bits = 0 }
 -- rules 28 and 29 of a list: the number and the place of each broken one
 pub data ListRule (list : List ℕ) : ℕ → ℕ → Type 0 where
   listLengthEmpty : length list ≡ 0 → ListRule list 28 0
-  listLengthMany : 256 < length list → ListRule list 28 0
+  listLengthMany : maxCpus < length list → ListRule list 28 0
   listMpidr : (i : ℕ) → i < length list → (Affine (getD list i 0) → ⊥) → ListRule list 29 i
 
 -- rules 28 to 30 of one MPIDR asked in a list

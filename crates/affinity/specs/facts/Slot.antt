@@ -9,6 +9,7 @@ use Rattle.affinity.specs.facts.Level.{beginOf}
 unfoldable pub levelSlot : ℕ → ℕ → ℕ → ℕ → ℕ
 levelSlot mask mpidr level shift = bitAnd (bitAnd mpidr mask) (255 * 2 ^ beginOf level) / 2 ^ shift
 
+-- the slot: the bits of the MPIDR that are ones in the mask, each level's moved right by its shift, joined
 unfoldable pub slotOf : Hash → ℕ → ℕ
 slotOf h mpidr =
     bitOr

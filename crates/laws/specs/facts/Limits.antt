@@ -1,6 +1,19 @@
 -- The limits of the rules (01, "The tables", "Numbers told").
 use Prim.Native.Nat.{ℕ}
 
+-- the most node records of a board, of which there is at least one
+abbrev pub maxNodes : ℕ
+maxNodes = 1024
+
+-- the most property records of a board
+abbrev pub maxProperties : ℕ
+maxProperties = 4096
+
+-- the most bytes of a board's pool
+abbrev pub maxPool : ℕ
+maxPool = 65536
+
+-- the most bytes of a node's name, and of a property's name; each has at least one
 abbrev pub maxNodeName : ℕ
 maxNodeName = 64
 
@@ -11,15 +24,7 @@ maxPropertyName = 31
 abbrev pub noParent : ℕ
 noParent = 0xFFFFFFFF
 
-abbrev pub maxNodes : ℕ
-maxNodes = 1024
-
-abbrev pub maxProperties : ℕ
-maxProperties = 4096
-
-abbrev pub maxPool : ℕ
-maxPool = 65536
-
+-- the most cpu records of a board, and MPIDRs of a list
 abbrev pub maxCpus : ℕ
 maxCpus = 256
 
