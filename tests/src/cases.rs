@@ -14,10 +14,6 @@ const BOARD: u32 = 0;
 const LIST: u32 = 1;
 const NAME: u32 = 2;
 
-/// What is asked of a list.
-const HASH: u32 = 0;
-const SLOT: u32 = 1;
-
 /// The longest text and the longest name that the program takes.
 const TEXT_BYTES: usize = 96;
 
@@ -38,10 +34,12 @@ pub struct Files {
 /// The number of cases, the cases, and the end of the last line.
 pub fn files() -> Files {
     let (boards, lists) = (boards(), lists());
-    let asked: usize = lists.iter().map(|list| 1 + list.asked.len()).sum();
+    let asked: usize = lists.iter().map(|list| list.asked.len()).sum();
     let mut files = Files::default();
     files.word((boards.len() + asked + NAMES.len()) as u32);
-    lists.iter().for_each(|list| files.list(list));
+    for list in &lists {
+        list.asked.iter().for_each(|&mpidr| files.list(list, mpidr));
+    }
     NAMES.iter().for_each(|name| files.name(name));
     boards.iter().for_each(|board| files.board(board));
     files.text("\n");
@@ -93,31 +91,20 @@ impl Files {
         self.told(", bits ", answer.bits);
     }
 
-    /// Its hash, and each slot that is asked in it.
-    fn list(&mut self, list: &List) {
-        let answer = second::list_hash(&list.mpidrs);
-        self.question(list, HASH);
-        self.line(&format!("{}: number ", list.label), answer.number);
-        self.told(", place ", answer.place);
-        self.hash(&answer);
-        for &mpidr in &list.asked {
-            let answer = second::list_slot(mpidr, &list.mpidrs);
-            self.question(list, SLOT);
-            self.mpidr(mpidr);
-            self.line(
-                &format!("{}, {mpidr:#x}: number ", list.label),
-                answer.number,
-            );
-            self.told(", place ", answer.place);
-            self.told(", slot ", answer.count);
-        }
-    }
-
-    fn question(&mut self, list: &List, asked: u32) {
+    /// The list's hash and the slot of an MPIDR in it.
+    fn list(&mut self, list: &List, mpidr: u64) {
+        let hash = second::list_hash(&list.mpidrs);
+        let slot = second::list_slot(mpidr, &list.mpidrs);
         self.word(LIST);
         self.word(list.mpidrs.len() as u32);
         list.mpidrs.iter().for_each(|&mpidr| self.mpidr(mpidr));
-        self.word(asked);
+        self.mpidr(mpidr);
+        self.line(&format!("{}, {mpidr:#x}: number ", list.label), hash.number);
+        self.told(", place ", hash.place);
+        self.hash(&hash);
+        self.told("; number ", slot.number);
+        self.told(", place ", slot.place);
+        self.told(", slot ", slot.count);
     }
 
     fn name(&mut self, (label, name): &(&str, &str)) {

@@ -19,23 +19,18 @@ pub fn board() {
     let n = input::words(&mut nodes);
     let mut props = table();
     let p = input::words(&mut props);
-    lend(&nodes[..n], &props[..p]);
+    read(&nodes[..n], &props[..p]);
 }
 
-// The pool, and what the row buffer holds before the board is read.
-fn lend(nodes: &[u32], props: &[u32]) {
+// The pool, what the row buffer holds before the board is read, and the width. All words of the buffer are written behind the answer.
+fn read(nodes: &[u32], props: &[u32]) {
     let mut pool = pool();
     let b = input::bytes(&mut pool);
     let mut rows = table();
     let r = input::words(&mut rows);
-    read(nodes, props, &pool[..b], &mut rows[..r]);
-}
-
-// The width. All words of the row buffer are written behind the answer.
-fn read(nodes: &[u32], props: &[u32], pool: &[u8], rows: &mut [u32]) {
     let width = input::word();
-    show(board::read_tables(width, nodes, props, pool, rows));
-    say::words(rows);
+    show(board::read_tables(width, nodes, props, &pool[..b], &mut rows[..r]));
+    say::words(&rows[..r]);
 }
 
 fn show(answer: BoardAnswer) {

@@ -26,19 +26,6 @@ pub fn words(table: &mut [u32]) -> usize
     count
 }
 
-// The same for MPIDRs.
-pub fn mpidrs(table: &mut [u64]) -> usize
-    ensures { λ r. ⌜ Counts r (now (table .exit)) ⌝ }
-{
-    let count = laws::at_most(word() as usize, table.len());
-    let mut i: usize = 0;
-    while i < count {
-        table[i] = mpidr();
-        i += 1;
-    }
-    count
-}
-
 // The same for bytes.
 pub fn bytes(table: &mut [u8]) -> usize
     ensures { λ r. ⌜ Counts r (now (table .exit)) ⌝ }

@@ -1,34 +1,31 @@
 // Lists of MPIDRs.
 use crate::input;
 use crate::say;
-use affinity::ListHash;
-use affinity::ListSlot;
 
 // Room for an MPIDR more than the limit allows.
+const LIST_ROOM: usize = 257;
+
+// The MPIDR whose slot is asked follows the list.
 pub fn list() {
-    let mut list = [0u64; 257];
-    let count = input::mpidrs(&mut list);
-    ask(&list[..count]);
-}
-
-// After the list a word says whether its hash is asked or an MPIDR's slot.
-fn ask(list: &[u64]) {
-    if input::word() == 0 {
-        hash(affinity::list_hash(list));
-    } else {
-        slot(affinity::list_slot(input::mpidr(), list));
+    let mut list = [0u64; LIST_ROOM];
+    let count = laws::at_most(input::word() as usize, LIST_ROOM);
+    let mut i: usize = 0;
+    while i < count {
+        list[i] = input::mpidr();
+        i += 1;
     }
+    ask(input::mpidr(), &list[..count]);
 }
 
-fn hash(answer: ListHash) {
-    let hash = answer.hash;
-    say::told(answer.number as u64);
-    say::told(answer.place as u64);
+// The hash, and the slot.
+fn ask(mpidr: u64, list: &[u64]) {
+    let found = affinity::list_hash(list);
+    let hash = found.hash;
+    say::told(found.number as u64);
+    say::told(found.place as u64);
     say::hash(hash);
-}
-
-fn slot(answer: ListSlot) {
-    say::told(answer.number as u64);
-    say::told(answer.place as u64);
-    say::told(answer.slot as u64);
+    let one = affinity::list_slot(mpidr, list);
+    say::told(one.number as u64);
+    say::told(one.place as u64);
+    say::told(one.slot as u64);
 }
