@@ -20,7 +20,7 @@ use Rattle.cpus.specs.facts.Rules.{SoundPhandles}
 use Rattle.cpus.specs.answers.Cell.{cellOf}
 use Rattle.cpus.specs.answers.Check.{cpuList, phandleList}
 use Rattle.cpus.proofs.ValueMeans.{value-unique, cell-test, test-cell}
-use Rattle.cpumap.specs.facts.Map.{Names}
+use Rattle.leaves.specs.facts.Leaf.{Names}
 use Rattle.leaves.specs.answers.Check.{indexOf, leafCpu, cpuCells}
 use Rattle.leaves.proofs.PhandleMeans.{cpuAt, cpuIndex, in-cpus, in-phandles, cpu-index, index-cpu, phandle-at, index-apart}
 

@@ -27,7 +27,7 @@ use Rattle.tables.proofs.TreeLaws.{the-parent}
 use Rattle.wellformed.proofs.WellFormedLaws.{wf-depth}
 use Rattle.cpumap.specs.facts.Map.{Map, InMap, OfKind, FirstChild}
 use Rattle.cpumap.specs.answers.Path.{topologyName}
-use Rattle.topology.specs.facts.Rules.{MapRule, Allowed}
+use Rattle.topology.specs.facts.Rules.{TopologyRule, Allowed}
 use Rattle.cpumap.specs.answers.Number.{kindNumber}
 use Rattle.topology.specs.answers.Check.{allowedUnder, allowedInMap, kindFault, numberFault, shapeFault, mapRecordFault}
 use Rattle.cpumap.proofs.NameFacts.{Says, topology-says, topology-is, topology-cases, is-unique, kinds-apart, kind-number-same, kind-number-of, kind-number-some, map-nameless}
@@ -195,32 +195,32 @@ module _ (b : Board) (well : WellFormed b) (m : ℕ) (map : Map b m) where
       first-kind : (j : Kind) (k : ℕ) → Named (nodeName b (suc over)) j k → kindNumber (name (over + 1)) ≡ kindNumber (namedAs j k)
       first-kind j k q = rw (add-one over, topology-is b well (suc over) j k (next .inside) .1 q)
 
-      mixed-broken : (SameKind → ⊥) → MapRule b 20 i
+      mixed-broken : (SameKind → ⊥) → TopologyRule b 20 i
       mixed-broken ne = ⊎-elim (λ e. absurd (ne (sym (first-kind kind n (rw e named))))) other first-placed
         where
-          other : (j : Kind) × (k : ℕ) × Named (nodeName b (suc over)) j k × Allowed b over j → MapRule b 20 i
+          other : (j : Kind) × (k : ℕ) × Named (nodeName b (suc over)) j k × Allowed b over j → TopologyRule b 20 i
           other t =
               ⊎-elim (λ e. absurd (apart e))
-              (λ mixing. MapRule.cpuMapKindMixed i over (suc over) kind (t .0) in-map mixing child first (n, named) (t .1, t .2) apart)
+              (λ mixing. TopologyRule.cpuMapKindMixed i over (suc over) kind (t .0) in-map mixing child first (n, named) (t .1, t .2) apart)
               (allowed-mix b over allowed (t .3))
             where
               apart : kind ≡ t .0 → ⊥
               apart e = ne (kind-number-of kind n (t .1) ∙ ap (λ (j : Kind). kindNumber (namedAs j (t .1))) e ∙ sym (first-kind (t .0) (t .1) (t .2)))
 
-      mixed-sound : SameKind → MapRule b 20 i → ⊥
-      mixed-sound same (MapRule.cpuMapKind _ p k _ c is none) = none (rw (child-unique child c, is-unique b i kind k (n, named) is) at allowed)
-      mixed-sound same (MapRule.cpuMapKindMixed _ p f k j _ _ c fc is fis ne) =
+      mixed-sound : SameKind → TopologyRule b 20 i → ⊥
+      mixed-sound same (TopologyRule.cpuMapKind _ p k _ c is none) = none (rw (child-unique child c, is-unique b i kind k (n, named) is) at allowed)
+      mixed-sound same (TopologyRule.cpuMapKindMixed _ p f k j _ _ c fc is fis ne) =
           let le = fc .lowest (suc over) (rw (child-unique c child) next) in
           let lt = fc .child .earlier in
           let e = child-unique c child in
           let place : f ≡ suc over = omega arith in
           ne (is-unique b i k kind is (n, named) ∙ kind-number-same kind j n (fis .0) (same ∙ first-kind j (fis .0) (rw place at (fis .1))))
 
-    pub kind-tested : (kind : Kind) (n : ℕ) → Named (nodeName b i) kind n → Tested 20 (MapRule b 20 i) (kindFault (b .nodes) (b .pool) m over (namedAs kind n))
+    pub kind-tested : (kind : Kind) (n : ℕ) → Named (nodeName b i) kind n → Tested 20 (TopologyRule b 20 i) (kindFault (b .nodes) (b .pool) m over (namedAs kind n))
     unfolding kindFault
     kind-tested kind n named = go (decide-cases (allowed-test over kind n over-inside))
       where
-        go : {t : Bool} → Decided (Allowed b over kind) t → Tested 20 (MapRule b 20 i) (cond t (cond (eqb (kindNumber (namedAs kind n)) (kindNumber (name (over + 1)))) 0 20) 20)
+        go : {t : Bool} → Decided (Allowed b over kind) t → Tested 20 (TopologyRule b 20 i) (cond t (cond (eqb (kindNumber (namedAs kind n)) (kindNumber (name (over + 1)))) 0 20) 20)
         go (Decided.holds allowed) =
             tested-unless (mixed-sound kind n named allowed) (mixed-broken kind n named allowed) (eq-decides (kindNumber (namedAs kind n)) (kindNumber (name (over + 1))))
-        go (Decided.fails n-a) = Tested.broken (MapRule.cpuMapKind i over kind in-map child (n, named) n-a)
+        go (Decided.fails n-a) = Tested.broken (TopologyRule.cpuMapKind i over kind in-map child (n, named) n-a)
