@@ -60,10 +60,18 @@ module _
     mapped n p r = none n p (Breaks.leaves r)
 
     the-map : (m : ℕ) × Map b m
-    the-map = ⊎-elim (λ lt. (mapOf (b .nodes) (b .pool), map-of b well lt)) (λ le. absurd (none 15 0 (Breaks.map (MapRule.cpuMapMissing (no-map b well le))))) (lt-or-le (mapOf (b .nodes) (b .pool)) (nodeCount (b .nodes)))
+    the-map =
+        ⊎-elim
+        (λ lt. (mapOf (b .nodes) (b .pool), map-of b well lt))
+        (λ le. absurd (none 15 0 (Breaks.map (MapRule.cpuMapMissing (no-map b well le)))))
+        (lt-or-le (mapOf (b .nodes) (b .pool)) (nodeCount (b .nodes)))
 
     room : rowSize * cpuCount b ≤ length before
-    room = ⊎-elim (λ lt. absurd (none 27 0 (Breaks.rowSpace (cpuList b) (cpu-listing well) (rw (cpu-count b) at lt)))) (λ le. le) (lt-or-le (length before) (rowSize * cpuCount b))
+    room =
+        ⊎-elim
+        (λ lt. absurd (none 27 0 (Breaks.rowSpace (cpuList b) (cpu-listing well) (rw (cpu-count b) at lt))))
+        (λ le. le)
+        (lt-or-le (length before) (rowSize * cpuCount b))
 
     leaves : LeafFacts b
     leaves = leaf-facts sized well sound handles (the-map .1) kept mapped

@@ -34,7 +34,11 @@ module _ {b : Board} (sized : WordSized b) (well : WellFormed b) (handles : Soun
   unfolding leafCpu
   index-names i = go (cellOf (b .props) (b .pool) i cpuKey) refl
     where
-      go : (x : Value) → cellOf (b .props) (b .pool) i cpuKey ≡ x → indexOf (phandleList b) x < length (phandleList b) → Names b i (cpuAt b (indexOf (phandleList b) x))
+      go :
+          (x : Value) →
+          cellOf (b .props) (b .pool) i cpuKey ≡ x →
+          indexOf (phandleList b) x < length (phandleList b) →
+          Names b i (cpuAt b (indexOf (phandleList b) x))
       go Invalid e lt = absurd (omega arith)
       go (Number w) e lt =
           let test : ℕ → Bool = λ j. eqb (getD (phandleList b) j 0) w in

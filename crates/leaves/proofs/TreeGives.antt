@@ -80,7 +80,8 @@ module _
     pub same-count : length (leafList t) ≡ length (cpuList b)
     same-count =
         le-antisymm
-        (listing-into {R = Names b} (leafList t) (cpuList b) leaf-listing (cpu-listing well) (λ i l. let n = leaf-names i l in (cpuAt b (cpuOf t i), n .is-cpu, n)) leaves-apart)
+        (listing-into {R = Names b} (leafList t) (cpuList b) leaf-listing (cpu-listing well)
+        (λ i l. let n = leaf-names i l in (cpuAt b (cpuOf t i), n .is-cpu, n)) leaves-apart)
         (listing-into {R = λ c i. Names b i c} (cpuList b) (leafList t) (cpu-listing well) leaf-listing cpu-leaf
         (λ c d i _ _. names-unique sized well handles i c d))
 

@@ -50,7 +50,10 @@ module _ {b : Board} (sized : WordSized b) (well : WellFormed b) (sound : SoundC
     earlier k l = fault-check t k (clean k l)
 
     -- rules 18 to 23, and where none of them is broken rules 24 and 25
-    both : {w : ℕ} → (shapeOf t i .number ≡ 0 → Smallest stage (LeafRule b) (stage 18) i w) → Smallest stage (TreeRule b) (stage 18) i (orNumber (shapeOf t i .number) w)
+    both :
+        {w : ℕ} →
+        (shapeOf t i .number ≡ 0 → Smallest stage (LeafRule b) (stage 18) i w) →
+        Smallest stage (TreeRule b) (stage 18) i (orNumber (shapeOf t i .number) w)
     both = smallest-then in-order (shape-told b is-map well (root-nameless b sound) i lt (λ k l. check-shape k (earlier k l)))
 
     of-leaf : {w : ℕ} → shapeOf t i .leaf ≡ true → Smallest stage (LeafRule b) (stage 18) i w → Smallest stage (TreeRule b) (stage 18) i w

@@ -34,11 +34,15 @@ module _ (b : Board) (m : ℕ) where
 
   leaf-places : leavesFault (treeAt b m) (cpuList b) ≡ orElse here there
   unfolding leavesFault unmappedFault
-  leaf-places = rw (first-listed (isCpu (b .nodes) (b .pool)) (λ k _. cond (namedBelow (treeAt b m) (nodeCount (b .nodes)) k) 0 26) (nodeCount (b .nodes)))
+  leaf-places =
+      rw (first-listed (isCpu (b .nodes) (b .pool)) (λ k _. cond (namedBelow (treeAt b m) (nodeCount (b .nodes)) k) 0 26) (nodeCount (b .nodes)))
 
   -- a place told is at most the number of records
   pub leaves-place : leavesFault (treeAt b m) (cpuList b) .place ≤ nodeCount (b .nodes)
-  leaves-place = rw leaf-places (else-place here there (place-le (treeFault (treeAt b m)) (nodeCount (b .nodes))) (λ _. place-le (unmappedFault (treeAt b m)) (nodeCount (b .nodes))))
+  leaves-place =
+      rw leaf-places
+      (else-place here there (place-le (treeFault (treeAt b m)) (nodeCount (b .nodes))) λ _.
+      place-le (unmappedFault (treeAt b m)) (nodeCount (b .nodes)))
 
 module _ {b : Board} (sized : WordSized b) (well : WellFormed b) (sound : SoundCpus b) (handles : SoundPhandles b) {m : ℕ} (is-map : Map b m) where
   abbrev t : Tree

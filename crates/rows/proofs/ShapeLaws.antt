@@ -68,7 +68,8 @@ module _ (b : Board) (well : WellFormed b) (m : ℕ) (the-map : Map b m) (sound 
       ⊎-elim (λ q. omega arith) (λ v. omega (arith, ancestor-earlier v)) (ancestor-cases a c)
 
   -- a record has at most one socket above it
-  pub socket-unique : (i s t : ℕ) → InMap b i → Ancestor (b .nodes) s i → OfKind b Kind.socket s → Ancestor (b .nodes) t i → OfKind b Kind.socket t → s ≡ t
+  pub socket-unique :
+      (i s t : ℕ) → InMap b i → Ancestor (b .nodes) s i → OfKind b Kind.socket s → Ancestor (b .nodes) t i → OfKind b Kind.socket t → s ≡ t
   socket-unique i s t h a is-s c is-t =
       ⊎-elim
       (λ e. e)

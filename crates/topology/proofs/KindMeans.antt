@@ -30,7 +30,8 @@ use Rattle.cpumap.specs.answers.Path.{topologyName}
 use Rattle.topology.specs.facts.Rules.{TopologyRule, Allowed}
 use Rattle.cpumap.specs.answers.Number.{kindNumber}
 use Rattle.topology.specs.answers.Check.{allowedUnder, allowedInMap, kindFault, numberFault, shapeFault, mapRecordFault}
-use Rattle.cpumap.proofs.NameFacts.{Says, topology-says, topology-is, topology-cases, is-unique, kinds-apart, kind-number-same, kind-number-of, kind-number-some, map-nameless}
+use Rattle.cpumap.proofs.NameFacts.{Says, topology-says, topology-is, topology-cases, is-unique, kinds-apart}
+use Rattle.cpumap.proofs.NameFacts.{kind-number-same, kind-number-of, kind-number-some, map-nameless}
 use Rattle.cpumap.proofs.MapMeans.{map-unique, in-map-below}
 use Rattle.cpumap.proofs.WithinMeans.{child-has, within-above, above-within}
 
@@ -105,7 +106,8 @@ module _ (b : Board) (well : WellFormed b) (m : ℕ) (map : Map b m) where
   abbrev isAllowed : ℕ → TopologyName → Bool
   isAllowed p x = cond (eqb p m) (allowedInMap x) (allowedUnder (name p) x)
 
-  allowed-under : (p : ℕ) (kind : Kind) (n : ℕ) → p < nodeCount (b .nodes) → (Map b p → ⊥) → Allowed b p kind → allowedUnder (name p) (namedAs kind n) ≡ true
+  allowed-under :
+      (p : ℕ) (kind : Kind) (n : ℕ) → p < nodeCount (b .nodes) → (Map b p → ⊥) → Allowed b p kind → allowedUnder (name p) (namedAs kind n) ≡ true
   allowed-under p kind n lt none (Allowed.mapSocket s) = absurd (none s)
   allowed-under p kind n lt none (Allowed.mapCluster s) = absurd (none s)
   allowed-under p kind n lt none (Allowed.socketCluster is) = rw (topology-is b well p Kind.socket (is .0) lt .1 (is .1))
@@ -116,7 +118,10 @@ module _ (b : Board) (well : WellFormed b) (m : ℕ) (map : Map b m) where
   pub allowed-test : (p : ℕ) (kind : Kind) (n : ℕ) → p < nodeCount (b .nodes) → Decides (isAllowed p (namedAs kind n)) (Allowed b p kind)
   allowed-test p kind n lt = go (decide-cases (eq-decides p m))
     where
-      go : {t : Bool} → Decided (p ≡ m) t → Decides (cond t (allowedInMap (namedAs kind n)) (allowedUnder (name p) (namedAs kind n))) (Allowed b p kind)
+      go :
+          {t : Bool} →
+          Decided (p ≡ m) t →
+          Decides (cond t (allowedInMap (namedAs kind n)) (allowedUnder (name p) (namedAs kind n))) (Allowed b p kind)
       go (Decided.holds e) = in-map-allowed b p (rw e map) kind n
       go (Decided.fails ne) = (
         under-allowed b p (topology-says b well p lt) kind n,
@@ -128,7 +133,8 @@ module _ (b : Board) (well : WellFormed b) (m : ℕ) (map : Map b m) where
       (i : ℕ) (kind : Kind) (n : ℕ) →
       let p = parentWord (b .nodes) i in
       mapRecordFault (b .nodes) (b .pool) m i (namedAs kind n)
-      ≡ orNumber (kindFault (b .nodes) (b .pool) m p (namedAs kind n)) (orNumber (numberFault (b .nodes) p i (namedAs kind n)) (shapeFault (b .nodes) (b .pool) p i (namedAs kind n)))
+      ≡ orNumber (kindFault (b .nodes) (b .pool) m p (namedAs kind n))
+      (orNumber (numberFault (b .nodes) p i (namedAs kind n)) (shapeFault (b .nodes) (b .pool) p i (namedAs kind n)))
   unfolding mapRecordFault
   fault-named i kind n = rw (ne-eqb (kindNumber (namedAs kind n)) 0 (kind-number-some kind n))
 
@@ -140,7 +146,11 @@ module _ (b : Board) (well : WellFormed b) (m : ℕ) (map : Map b m) where
   unfolding kindFault
   kind-sound p kind n lt = go (decide-cases (allowed-test p kind n lt))
     where
-      go : {t : Bool} → Decided (Allowed b p kind) t → _≡_ {A = ℕ} (cond t (cond (eqb (kindNumber (namedAs kind n)) (kindNumber (name (p + 1)))) 0 20) 20) 0 → Allowed b p kind
+      go :
+          {t : Bool} →
+          Decided (Allowed b p kind) t →
+          _≡_ {A = ℕ} (cond t (cond (eqb (kindNumber (namedAs kind n)) (kindNumber (name (p + 1)))) 0 20) 20) 0 →
+          Allowed b p kind
       go (Decided.holds a) z = a
       go (Decided.fails _) z = absurd (omega arith)
 
@@ -216,11 +226,16 @@ module _ (b : Board) (well : WellFormed b) (m : ℕ) (map : Map b m) where
           let place : f ≡ suc over = omega arith in
           ne (is-unique b i k kind is (n, named) ∙ kind-number-same kind j n (fis .0) (same ∙ first-kind j (fis .0) (rw place at (fis .1))))
 
-    pub kind-tested : (kind : Kind) (n : ℕ) → Named (nodeName b i) kind n → Tested 20 (TopologyRule b 20 i) (kindFault (b .nodes) (b .pool) m over (namedAs kind n))
+    pub kind-tested :
+        (kind : Kind) (n : ℕ) → Named (nodeName b i) kind n → Tested 20 (TopologyRule b 20 i) (kindFault (b .nodes) (b .pool) m over (namedAs kind n))
     unfolding kindFault
     kind-tested kind n named = go (decide-cases (allowed-test over kind n over-inside))
       where
-        go : {t : Bool} → Decided (Allowed b over kind) t → Tested 20 (TopologyRule b 20 i) (cond t (cond (eqb (kindNumber (namedAs kind n)) (kindNumber (name (over + 1)))) 0 20) 20)
+        go :
+            {t : Bool} →
+            Decided (Allowed b over kind) t →
+            Tested 20 (TopologyRule b 20 i) (cond t (cond (eqb (kindNumber (namedAs kind n)) (kindNumber (name (over + 1)))) 0 20) 20)
         go (Decided.holds allowed) =
-            tested-unless (mixed-sound kind n named allowed) (mixed-broken kind n named allowed) (eq-decides (kindNumber (namedAs kind n)) (kindNumber (name (over + 1))))
+            tested-unless (mixed-sound kind n named allowed) (mixed-broken kind n named allowed)
+            (eq-decides (kindNumber (namedAs kind n)) (kindNumber (name (over + 1))))
         go (Decided.fails n-a) = Tested.broken (TopologyRule.cpuMapKind i over kind in-map child (n, named) n-a)

@@ -46,7 +46,8 @@ module _ (b : Board) (well : WellFormed b) (m : ℕ) (map : Map b m) where
   -- the map can break rule 23 alone
   pub map-told : Smallest stage (TopologyRule b) (stage 18) m (groupFault (b .nodes) m)
   map-told =
-      smallest-only stage (TopologyRule b) (stage 18) 23 (omega arith) refl (λ n r _. go (staged r .1)) (group-tested b well m (TopologyRule.cpuMapEmpty m map))
+      smallest-only stage (TopologyRule b) (stage 18) 23 (omega arith) refl (λ n r _. go (staged r .1))
+      (group-tested b well m (TopologyRule.cpuMapEmpty m map))
     where
       go : {n : ℕ} → Place b n m → n ≡ 23
       go (Place.outside _ _ _ out) = absurd (outside-not-map b m map m out refl)

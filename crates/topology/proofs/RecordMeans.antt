@@ -1,4 +1,5 @@
--- Rules 19 to 23 at a record below the map: the smallest that is broken is told. Assumes well-formed tables, no topology name of record 0, and sound earlier records.
+-- Rules 19 to 23 at a record below the map: the smallest that is broken is told.
+-- Assumes well-formed tables, no topology name of record 0, and sound earlier records.
 use mathlib.Core.Path.{_≡_, sym, _∙_}
 use mathlib.Core.Logic.{⊎-elim, _↔_}
 use mathlib.Core.List.{List}
@@ -37,7 +38,8 @@ use Rattle.cpumap.proofs.PathMeans.{clusterList, clusters-listing, depth-below}
 use Rattle.topology.proofs.KindMeans.{parent-of, fault-named, kind-tested}
 
 -- rule 23 where a record that must have children has none
-pub group-tested : (b : Board) (well : WellFormed b) (i : ℕ) → (Childless b i → TopologyRule b 23 i) → Tested 23 (TopologyRule b 23 i) (groupFault (b .nodes) i)
+pub group-tested :
+    (b : Board) (well : WellFormed b) (i : ℕ) → (Childless b i → TopologyRule b 23 i) → Tested 23 (TopologyRule b 23 i) (groupFault (b .nodes) i)
 group-tested b well i breaks =
     tested-unless
     (λ t (r : TopologyRule b 23 i). childless r .0 (t .0) (t .1))
@@ -120,14 +122,16 @@ module _
 
     -- rules 22 and 23
     pair : {v w : ℕ} → Tested 22 (Rule 22) v → Tested 23 (Rule 23) w → Least Rule 22 23 (orNumber v w)
-    pair {v} {w} s t = least-then Rule 22 22 23 v w (omega arith) (omega arith) (least-one Rule 22 (omega arith) s) (least-one Rule 23 (omega arith) t)
+    pair {v} {w} s t =
+        least-then Rule 22 22 23 v w (omega arith) (omega arith) (least-one Rule 22 (omega arith) s) (least-one Rule 23 (omega arith) t)
 
     apart : (k j : Kind) (n : ℕ) → Named (nodeName b i) k n → (kindNumber (namedAs j 0) ≡ kindNumber (namedAs k 0) → ⊥) → OfKind b j i → ⊥
     apart k j n q ne t = kinds-apart b i j k ne t (n, q)
 
     shape-least : (kind : Kind) (n : ℕ) → Named (nodeName b i) kind n → Least Rule 22 23 (shapeFault (b .nodes) (b .pool) over i (namedAs kind n))
     shape-least Kind.socket n q =
-        pair (not-deep (apart Kind.socket Kind.cluster n q (λ z. omega arith))) (group-tested b well i (TopologyRule.cpuMapEmptySocket i in-map (n, q)))
+        pair (not-deep (apart Kind.socket Kind.cluster n q (λ z. omega arith)))
+        (group-tested b well i (TopologyRule.cpuMapEmptySocket i in-map (n, q)))
     shape-least Kind.cluster n q = pair (depth-tested (n, q)) (group-tested b well i (TopologyRule.cpuMapEmptyCluster i in-map (n, q)))
     shape-least Kind.core n q =
         let no-cluster = apart Kind.core Kind.cluster n q (λ z. omega arith) in
@@ -154,8 +158,10 @@ module _
           faults kind n q =
               rw (fault-named b well m map i kind n)
               (least-then Rule 19 19 23 0 _ (omega arith) (omega arith) (least-one Rule 19 (omega arith) (Tested.sound (has-name kind (n, q))))
-              (least-then Rule 20 20 23 _ _ (omega arith) (omega arith) (least-one Rule 20 (omega arith) (kind-tested b well m map i in-map lower kind n q))
-              (least-then Rule 21 21 23 _ _ (omega arith) (omega arith) (least-one Rule 21 (omega arith) (number-tested kind n q)) (shape-least kind n q))))
+              (least-then Rule 20 20 23 _ _ (omega arith) (omega arith)
+              (least-one Rule 20 (omega arith) (kind-tested b well m map i in-map lower kind n q))
+              (least-then Rule 21 21 23 _ _ (omega arith) (omega arith)
+              (least-one Rule 21 (omega arith) (number-tested kind n q)) (shape-least kind n q))))
 
           named : (kind : Kind) × (n : ℕ) × (name i ≡ namedAs kind n) × Named (nodeName b i) kind n → Least Rule 19 23 fault
           named t = rw (t .2) (faults (t .0) (t .1) (t .3))

@@ -48,7 +48,8 @@ module _ (b : Board) {m : ℕ} (map : Map b m) where
   shaped : (i : ℕ) → Shaped i (shapeAt i)
   unfolding recordShape mapRecordShape
   shaped i =
-      go (decide-cases (eq-decides i 0)) (decide-cases (eq-decides i m)) (decide-cases (in-map-test b m map i)) (decide-cases (eq-decides (fault i) 0))
+      go (decide-cases (eq-decides i 0)) (decide-cases (eq-decides i m)) (decide-cases (in-map-test b m map i))
+      (decide-cases (eq-decides (fault i) 0))
     where
       go :
           {x y z w : Bool} →
@@ -90,7 +91,11 @@ module _ (b : Board) {m : ℕ} (map : Map b m) where
 
   -- the number told of a record, where none is told of the records before it
   module _ (well : WellFormed b) (nameless : (kind : Kind) → OfKind b kind 0 → ⊥) where
-    pub shape-told : (i : ℕ) → i < nodeCount (b .nodes) → ((k : ℕ) → k < i → shapeAt k .number ≡ 0) → Smallest stage (TopologyRule b) (stage 18) i (shapeAt i .number)
+    pub shape-told :
+        (i : ℕ) →
+        i < nodeCount (b .nodes) →
+        ((k : ℕ) → k < i → shapeAt k .number ≡ 0) →
+        Smallest stage (TopologyRule b) (stage 18) i (shapeAt i .number)
     shape-told i lt lower = go (shaped i)
       where
         below : InMap b i → Smallest stage (TopologyRule b) (stage 18) i (fault i)
