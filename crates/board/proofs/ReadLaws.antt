@@ -82,7 +82,8 @@ module _ {b : Board} (sized : WordSized b) (before : List ℕ) where
   met e g = (e, (g, rw (e, g) (demands sized before)))
 
   -- a fault is told
-  refuses : {r : BoardAnswer} {f : Fault} → boardFault b (length before) ≡ f → (f .number ≡ 0 → ⊥) → r ≡ refusedWith (f .number) (f .place) → Met r before
+  refuses :
+      {r : BoardAnswer} {f : Fault} → boardFault b (length before) ≡ f → (f .number ≡ 0 → ⊥) → r ≡ refusedWith (f .number) (f .place) → Met r before
   unfolding answerOf rowsAfter
   refuses {r} {f} e ne is = met (rw (e, ne-eqb (f .number) 0 ne) is) (rw (e, ne-eqb (f .number) 0 ne))
 

@@ -65,13 +65,27 @@ module _ (b : Board) where
 
   -- what the contract asks where a fault is told, and where none is
   module _ {r : Surveyed} {A : Type 0} where
-    pub tells : {f : Fault} {n p : ℕ} → surveyFault b ≡ f → r ≡ stopped n p → (n ≡ 0 → ⊥) → n ≡ f .number → p ≡ f .place → (r ≡ surveyOf b) × (surveyFault b .number ≡ 0 → A)
+    pub tells :
+        {f : Fault} {n p : ℕ} →
+        surveyFault b ≡ f →
+        r ≡ stopped n p →
+        (n ≡ 0 → ⊥) →
+        n ≡ f .number →
+        p ≡ f .place →
+        (r ≡ surveyOf b) × (surveyFault b .number ≡ 0 → A)
     unfolding surveyOf
     tells {f} e is ne en ep =
         let some : surveyFault b .number ≡ 0 → ⊥ = λ z. ne (en ∙ ap (λ (a : Fault). a .number) (sym e) ∙ z) in
         (rw (ne-eqb (surveyFault b .number) 0 some) (is ∙ rw (e, en, ep)), λ z. absurd (some z))
 
-    pub tells-first : {n p : ℕ} (f rest : Fault) → surveyFault b ≡ orElse f rest → r ≡ stopped n p → (n ≡ 0 → ⊥) → n ≡ f .number → p ≡ f .place → (r ≡ surveyOf b) × (surveyFault b .number ≡ 0 → A)
+    pub tells-first :
+        {n p : ℕ} (f rest : Fault) →
+        surveyFault b ≡ orElse f rest →
+        r ≡ stopped n p →
+        (n ≡ 0 → ⊥) →
+        n ≡ f .number →
+        p ≡ f .place →
+        (r ≡ surveyOf b) × (surveyFault b .number ≡ 0 → A)
     tells-first f rest e is ne en ep = tells (e ∙ or-first f rest (λ z. ne (en ∙ z))) is ne en ep
 
   pub clears :
@@ -92,7 +106,8 @@ module _ (b : Board) (well : WellFormed b) where
   pub counted-all : countBelow (isCpu (b .nodes) (b .pool)) (min (nodeCount (b .nodes)) maxNodes) ≡ cpuCount b
   counted-all = rw all-records
 
-  pub listed-all : (before : List ℕ) → laidOver (listBelow (isCpu (b .nodes) (b .pool)) (min (nodeCount (b .nodes)) maxNodes)) before ≡ laidOver (cpuList b) before
+  pub listed-all :
+      (before : List ℕ) → laidOver (listBelow (isCpu (b .nodes) (b .pool)) (min (nodeCount (b .nodes)) maxNodes)) before ≡ laidOver (cpuList b) before
   listed-all before = rw all-records
 
 -- the table of keys of a board
@@ -121,7 +136,10 @@ module _ (b : Board) (well : WellFormed b) {index records : List ℕ} (keys-are 
     pub numbers-stage : firstRecord here rule records ≡ firstRecord there rule (cpuList b)
     numbers-stage = rw (readings, records-are)
 
-    pub numbers-found : (before : List ℕ) → firstRecord there rule (cpuList b) .number ≡ 0 → numbersOver here rule records before ≡ laidOver (map (λ i. there i .value) (cpuList b)) before
+    pub numbers-found :
+        (before : List ℕ) →
+        firstRecord there rule (cpuList b) .number ≡ 0 →
+        numbersOver here rule records before ≡ laidOver (map (λ i. there i .value) (cpuList b)) before
     numbers-found before z = rw (readings, records-are) (numbers-clear there rule (cpuList b) before z)
 
   -- rules 18 to 26: no record and no phandle is cut off
@@ -132,7 +150,8 @@ module _ (b : Board) (well : WellFormed b) {index records : List ℕ} (keys-are 
       length phandles ≤ maxCpus →
       lentTree (b .nodes) (b .props) (b .pool) index root phandles ≡ treeOf b
   tree-is {phandles = phandles} root-is phandles-are few =
-      let whole : take (3 * maxNodes) (b .nodes) ≡ b .nodes = take-all (3 * maxNodes) (b .nodes) (omega (arith, wf-nodes well .1, wf-nodes well .2)) in
+      let fits : length (b .nodes) ≤ 3 * maxNodes = omega (arith, wf-nodes well .1, wf-nodes well .2) in
+      let whole : take (3 * maxNodes) (b .nodes) ≡ b .nodes = take-all (3 * maxNodes) (b .nodes) fits in
       rw (root-is, whole, take-all maxCpus phandles few ∙ phandles-are, same-cells (b .props) (b .pool) index (λ i. finds i Cpu))
 
 -- where the survey tells nothing, there are few cpu records, and no more leaves than these

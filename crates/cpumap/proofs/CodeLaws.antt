@@ -34,7 +34,12 @@ module _ (nodes pool : List ℕ) (i : ℕ) where
   name-none h = rw (le-ltb i (nodeCount nodes) h)
 
   pub name-outside :
-      {offset len : ℕ} → i < nodeCount nodes → offset ≡ nameOffset nodes i → len ≡ nameLength nodes i → length pool < offset + len → Other ≡ topologyName nodes pool i
+      {offset len : ℕ} →
+      i < nodeCount nodes →
+      offset ≡ nameOffset nodes i →
+      len ≡ nameLength nodes i →
+      length pool < offset + len →
+      Other ≡ topologyName nodes pool i
   unfolding topologyName
   name-outside h o l out =
       let far : length pool < nameOffset nodes i + nameLength nodes i = rw (o, l) at out in
@@ -55,7 +60,8 @@ module _ (nodes pool : List ℕ) (i : ℕ) where
       ∙ sym (rw (lt-ltb i (nodeCount nodes) h, le-leb (nameOffset nodes i + nameLength nodes i) (length pool) near))
 
   -- a value by recursion on the parent, at a record with a parent
-  climb-is : {A : Type 0} (top : A) (step : ℕ → A → A) (p : ℕ) → parentOf nodes i ≡ Record p → step i (climb nodes top step p) ≡ climb nodes top step i
+  climb-is :
+      {A : Type 0} (top : A) (step : ℕ → A → A) (p : ℕ) → parentOf nodes i ≡ Record p → step i (climb nodes top step p) ≡ climb nodes top step i
   climb-is top step p h =
       let at = parent-is nodes i p h in
       ap (λ (q : ℕ). step i (climb nodes top step q)) (sym (at .1)) ∙ climb-parent nodes top step i (at .0)
@@ -73,7 +79,8 @@ module _ (nodes pool : List ℕ) (i : ℕ) where
   unfolding socketNumber
   socket-none h = climb-none nodes gap (λ j socket. socketStep (topologyName nodes pool j) socket) i (parent-top nodes i h)
 
-  pub socket-is : (p : ℕ) → parentOf nodes i ≡ Record p → socketStep (topologyName nodes pool i) (socketNumber nodes pool p) ≡ socketNumber nodes pool i
+  pub socket-is :
+      (p : ℕ) → parentOf nodes i ≡ Record p → socketStep (topologyName nodes pool i) (socketNumber nodes pool p) ≡ socketNumber nodes pool i
   unfolding socketNumber
   socket-is p h = climb-is gap (λ j socket. socketStep (topologyName nodes pool j) socket) p h
 
@@ -82,7 +89,8 @@ module _ (nodes pool : List ℕ) (i : ℕ) where
   unfolding positionOf
   position-none h = ap₂ both (socket-none h) (path-none h)
 
-  pub position-is : (p : ℕ) → parentOf nodes i ≡ Record p → positionStep (topologyName nodes pool i) (positionOf nodes pool p) ≡ positionOf nodes pool i
+  pub position-is :
+      (p : ℕ) → parentOf nodes i ≡ Record p → positionStep (topologyName nodes pool i) (positionOf nodes pool p) ≡ positionOf nodes pool i
   unfolding positionOf
   position-is p h = ap₂ both (socket-is p h) (path-is p h)
 
@@ -131,6 +139,11 @@ module _ (nodes pool : List ℕ) where
   map-second {m} {f} e lt s ne = rw (past-map e lt s, ne-eqb (f .number) 0 ne)
 
   pub map-found :
-      {m : ℕ} {f : Fault} → m ≡ mapOf nodes pool → m < nodeCount nodes → f ≡ seconds → f .number ≡ 0 → record { number = 0; place = 0; map = m } ≡ mapScan nodes pool
+      {m : ℕ} {f : Fault} →
+      m ≡ mapOf nodes pool →
+      m < nodeCount nodes →
+      f ≡ seconds →
+      f .number ≡ 0 →
+      record { number = 0; place = 0; map = m } ≡ mapScan nodes pool
   unfolding mapScan
   map-found {m} {f} e lt s z = rw (past-map e lt s, eq-eqb (f .number) 0 z, ← e)

@@ -1,6 +1,7 @@
 -- What the computed definitions mean, as facts about a board.
 pub mod NameFacts
 pub mod MapMeans
+pub mod MapTells
 pub mod MapNameLaws
 pub mod WithinMeans
 pub mod PathMeans

@@ -1,6 +1,6 @@
 -- Where the map is, and the records below and outside it. Assumes well-formed tables.
 use mathlib.Core.Path.{_≡_, _∙_}
-use mathlib.Core.Bool.{Bool, false}
+use mathlib.Core.Bool.{Bool}
 use mathlib.Core.Logic.{⊎-elim}
 use mathlib.Core.List.{List}
 use Prim.Native.Nat.{ℕ, _≤_, _<_}
@@ -8,7 +8,7 @@ use native.Mathlib.Nat.{le-antisymm}
 use native.Mathlib.Omega.{arith}
 use Rattle.laws.specs.answers.Search.{lowest}
 use Rattle.laws.proofs.SearchLaws.{true-false, lt-or-le, lowest-below, lowest-passes}
-use Rattle.laws.proofs.DecideLaws.{Decides, decides-as, decides-not, then-decides}
+use Rattle.laws.proofs.DecideLaws.{Decides, decides-as, then-decides}
 use Rattle.tables.specs.facts.Board.{Board, nodeCount, nodeName, nameOffset, nameLength}
 use Rattle.tables.specs.answers.Tree.{isBelow}
 use Rattle.tables.specs.facts.Tree.{Child, Ancestor}
@@ -17,18 +17,14 @@ use Rattle.tables.proofs.DepthLaws.{below-test, ancestor-earlier, ancestor-insi
 use Rattle.wellformed.proofs.WellFormedLaws.{wf-name}
 use Rattle.tables.proofs.DecideLaws.{child-test, range-test}
 use Rattle.tables.specs.facts.Binding.{mapWord}
-use Rattle.cpumap.specs.facts.Map.{Map, InMap, Outside, Leaf}
+use Rattle.cpumap.specs.facts.Map.{Map, InMap, Outside}
 use Rattle.cpumap.specs.answers.Find.{isMapName, isMap, mapOf}
 
 -- the ancestor test decides the relation
 pub ancestor-test : (nodes : List ℕ) (a i : ℕ) → Decides (isBelow nodes i a) (Ancestor nodes a i)
 ancestor-test nodes a i = below-test a i
 
--- a leaf is below the map, and a record below the map is a record
-pub leaf-in-map : {b : Board} {i : ℕ} → Leaf b i → InMap b i
-leaf-in-map (Leaf.aThread s _) = s
-leaf-in-map (Leaf.aCore s _ _) = s
-
+-- a record below the map is a record
 pub in-map-inside : {b : Board} {i : ℕ} → InMap b i → i < nodeCount (b .nodes)
 in-map-inside s = ancestor-inside (s .below)
 
@@ -48,8 +44,9 @@ module _ (b : Board) (m : ℕ) (map : Map b m) where
   in-map-below i t = ancestor-test (b .nodes) m i .0 (in-map-test i .1 t)
 
   -- outside the map
-  pub outside-is : (i : ℕ) → (i ≡ m → ⊥) → isBelow (b .nodes) i m ≡ false → Outside b i
-  outside-is i ne e = record { root = m; is-map = map; not-map = ne; not-below = decides-not (ancestor-test (b .nodes) m i) .0 e }
+  pub outside-is : (i : ℕ) → (i ≡ m → ⊥) → (InMap b i → ⊥) → Outside b i
+  outside-is i ne none =
+      record { root = m; is-map = map; not-map = ne; not-below = λ a. none (record { root = m; is-map = map; below = a }) }
 
   pub outside-not-map : (i : ℕ) → Outside b i → i ≡ m → ⊥
   outside-not-map i t e = t .not-map (e ∙ map-unique b m (t .root) map (t .is-map))

@@ -27,5 +27,6 @@ module _ (nodes pool : List ℕ) (i : ℕ) {len : ℕ} (l : len ≡ nameLength n
       cond (eqb (cellAt pool offset) 0x6370752d) (eqb (cellAt pool (offset + 3)) 0x2d6d6170) false ≡ isMapName nodes pool i
   unfolding isMapName
   name-cells {offset} bytes seven o =
-      two-cells pool offset 3 0x6370752d 0x2d6d6170 mapWord bytes (omega arith) (omega arith) (omega arith) (λ e. omega arith) (λ e. omega arith) refl refl refl
+      two-cells pool offset 3 0x6370752d 0x2d6d6170 mapWord bytes (omega arith) (omega arith) (omega arith)
+      (λ e. omega arith) (λ e. omega arith) refl refl refl
       ∙ ap₂ (λ (x y : ℕ). rangeIs pool x y mapWord) o (sym seven ∙ l)

@@ -83,7 +83,10 @@ module _ (nodes pool : List ℕ) where
       top : (i : ℕ) → hasParent nodes i ≡ false → climb nodes noClusters step i ≡ pathOf (map numberAt (climb nodes [] (clusterNext nodes pool) i))
       top i e = rw (← climb-none nodes noClusters step i e, ← climb-none nodes [] (clusterNext nodes pool) i e) empty
 
-      one : (x : TopologyName) (i : ℕ) (l : List ℕ) → topologyName nodes pool i ≡ x → clusterStep x (pathOf (map numberAt l)) ≡ pathOf (map numberAt (addCluster x i l))
+      one :
+          (x : TopologyName) (i : ℕ) (l : List ℕ) →
+          topologyName nodes pool i ≡ x →
+          clusterStep x (pathOf (map numberAt l)) ≡ pathOf (map numberAt (addCluster x i l))
       one (Socket n) i l e = refl
       one (Cluster n) i l e = extend-path (map numberAt l) n ∙ ap pathOf (sym (map-append numberAt l (i ∷ []) ∙ rw e))
       one (Core n) i l e = refl
@@ -102,7 +105,12 @@ module _ (b : Board) (well : WellFormed b) (nameless : (kind : Kind) → OfKind 
   next = clusterNext (b .nodes) (b .pool)
 
   -- the clusters of a child are those of its parent, and itself where it is one
-  child-listing : {x : TopologyName} (p i : ℕ) (l : List ℕ) → Child (b .nodes) p i → Says b i x → Listing (ClusterWithin b p) l → Listing (ClusterWithin b i) (addCluster x i l)
+  child-listing :
+      {x : TopologyName} (p i : ℕ) (l : List ℕ) →
+      Child (b .nodes) p i →
+      Says b i x →
+      Listing (ClusterWithin b p) l →
+      Listing (ClusterWithin b i) (addCluster x i l)
   child-listing p i l c s h = go s
     where
       up : (a : ℕ) → ClusterWithin b p a → ClusterWithin b i a
@@ -154,7 +162,9 @@ module _ (b : Board) (well : WellFormed b) (nameless : (kind : Kind) → OfKind 
       (within-listing p (omega (arith, c .earlier, c .inside)))
 
   pub clusters-listing : (i : ℕ) → Listing (ClusterAbove b i) (clusterList (b .nodes) (b .pool) i)
-  clusters-listing = parent-induction (λ (i : ℕ). Listing (ClusterAbove b i) (clusterList (b .nodes) (b .pool) i)) top (λ p i c _. rw (list-child p i c) (above-listing p i c))
+  clusters-listing =
+      parent-induction (λ (i : ℕ). Listing (ClusterAbove b i) (clusterList (b .nodes) (b .pool) i)) top
+      (λ p i c _. rw (list-child p i c) (above-listing p i c))
     where
       has-of : {a i : ℕ} → Ancestor (b .nodes) a i → hasParent (b .nodes) i ≡ true
       has-of (Ancestor.parent c) = child-has c
@@ -168,5 +178,6 @@ module _ (b : Board) (well : WellFormed b) (nameless : (kind : Kind) → OfKind 
   unfolding pathOf
   path-depth i = rw (path-is (b .nodes) (b .pool) i, length-map (clustersWithin (b .nodes) (b .pool) i) (numberAt (b .nodes) (b .pool)))
 
-  pub depth-below : (p i : ℕ) → Child (b .nodes) p i → (clusterPath (b .nodes) (b .pool) p .depth < 4) ↔ (length (clusterList (b .nodes) (b .pool) i) ≤ 3)
+  pub depth-below :
+      (p i : ℕ) → Child (b .nodes) p i → (clusterPath (b .nodes) (b .pool) p .depth < 4) ↔ (length (clusterList (b .nodes) (b .pool) i) ≤ 3)
   depth-below p i c = let d = path-depth p in let l = ap length (list-child p i c) in (λ h. omega arith, λ h. omega arith)

@@ -1,4 +1,5 @@
--- The words of a record's path: the number of its cluster with so many clusters above it. Assumes well-formed tables, and that record 0 has no topology name.
+-- The words of a record's path: the number of its cluster with so many clusters above it.
+-- Assumes well-formed tables, and that record 0 has no topology name.
 use mathlib.Core.Path.{_≡_, refl, sym, ap, _∙_}
 use mathlib.Core.Logic.{inr, ⊎-elim}
 use mathlib.Core.List.{List, [], _∷_, _++_, map}
@@ -59,7 +60,8 @@ pub data PathWord (b : Board) (i d : ℕ) : ℕ → Type 0 where
 -- of a record that is no cluster, the clusters are those above it
 module _ (b : Board) (i : ℕ) (no-cluster : OfKind b Kind.cluster i → ⊥) where
   pub cluster-above : (c : ℕ) → ClusterWithin b i c → ClusterAbove b i c
-  cluster-above c t = record { ancestor = ⊎-elim (λ e. absurd (no-cluster (rw e at (t .is-cluster)))) (λ s. s) (t .within); is-cluster = t .is-cluster }
+  cluster-above c t =
+      record { ancestor = ⊎-elim (λ e. absurd (no-cluster (rw e at (t .is-cluster)))) (λ s. s) (t .within); is-cluster = t .is-cluster }
 
   pub above-cluster : (c : ℕ) → ClusterAbove b i c → ClusterWithin b i c
   above-cluster c t = record { within = inr (t .ancestor); is-cluster = t .is-cluster }
@@ -86,7 +88,11 @@ module _ (b : Board) (well : WellFormed b) (nameless : (kind : Kind) → OfKind 
       at = listing .only k lt
 
   -- so a cluster stands at the place that is the count of those above it
-  place-of : (c : ℕ) (above : List ℕ) → ClusterWithin b i c → Listing (ClusterAbove b c) above → (length above < length list) × (getD list (length above) 0 ≡ c)
+  place-of :
+      (c : ℕ) (above : List ℕ) →
+      ClusterWithin b i c →
+      Listing (ClusterAbove b c) above →
+      (length above < length list) × (getD list (length above) 0 ≡ c)
   place-of c above t h = go (listing .all c t)
     where
       go : Member list c → (length above < length list) × (getD list (length above) 0 ≡ c)
@@ -132,7 +138,13 @@ module _ (b : Board) (well : WellFormed b) (nameless : (kind : Kind) → OfKind 
   pub path-word-only : (d v : ℕ) → d < 4 → PathWord b i d v → v ≡ getD words d 0
   path-word-only d v lt w = go w
     where
-      at : (c n : ℕ) (above : List ℕ) → ClusterWithin b i c → Named (nodeName b c) Kind.cluster n → Listing (ClusterAbove b c) above → length above ≡ d → n ≡ getD words d 0
+      at :
+          (c n : ℕ) (above : List ℕ) →
+          ClusterWithin b i c →
+          Named (nodeName b c) Kind.cluster n →
+          Listing (ClusterAbove b c) above →
+          length above ≡ d →
+          n ≡ getD words d 0
       at c n above t name h e =
           let p = place-of c above t h in
           let in-d : d < length list = omega (arith, p .0) in

@@ -1,4 +1,4 @@
--- What the contracts of `cpumap` cite, and the facts about the cpu map that its rules and the rows are stated in.
+-- What the contracts of `cpumap` cite, the map and its records, and rules 15 and 16 as facts.
 pub mod facts
 pub mod answers
 pub mod steps

@@ -22,7 +22,7 @@ use Rattle.cpus.specs.facts.Node.{Cpu}
 use Rattle.cpus.specs.answers.Check.{cpuCount, cpuList}
 use Rattle.cpus.proofs.CpuMeans.{cpu-listing, cpu-count}
 use Rattle.cpus.proofs.CpuTells.{cpus-tells, cpus-kept, phandles-tells, phandles-kept}
-use Rattle.topology.proofs.MapTells.{map-tells, map-there}
+use Rattle.cpumap.proofs.MapTells.{map-tells, map-there}
 use Rattle.leaves.proofs.TreeTells.{tree-tells}
 use Rattle.demands.specs.facts.Rules.{Breaks}
 use Rattle.demands.specs.answers.Answer.{boardFault, roomFault}

@@ -30,7 +30,10 @@ module _ (b : Board) (room : ℕ) where
 
   map-place : mapFault (b .nodes) (b .pool) .place ≤ count
   unfolding mapFault
-  map-place = else-place (told (noMapFault (b .nodes) (b .pool)) 0) (firstFault (secondMapFault (b .nodes) (b .pool)) count) (le-trans (told-place (noMapFault (b .nodes) (b .pool)) 0) (omega arith)) (λ _. place-le (secondMapFault (b .nodes) (b .pool)) count)
+  map-place =
+      else-place (told (noMapFault (b .nodes) (b .pool)) 0) (firstFault (secondMapFault (b .nodes) (b .pool)) count)
+      (le-trans (told-place (noMapFault (b .nodes) (b .pool)) 0) (omega arith)) λ _.
+      place-le (secondMapFault (b .nodes) (b .pool)) count
 
   later-place :
       orElse (cpusFault b)
@@ -63,5 +66,6 @@ module _ (b : Board) (room : ℕ) where
     where
       go : (t : Bool) → eqb (boardFault b room .number) 0 ≡ t → answerOf b room .count ≤ 256
       go true e =
-          rw e (few-cpus b (or-clear (cpusFault b) _ (or-clear (tableFault b) _ (or-clear (surveyFault b) _ (eqb-true (boardFault b room .number) 0 e) .0) .1) .0))
+          let survey = or-clear (surveyFault b) _ (eqb-true (boardFault b room .number) 0 e) .0 in
+          rw e (few-cpus b (or-clear (cpusFault b) _ (or-clear (tableFault b) _ survey .1) .0))
       go false e = rw e (omega arith)

@@ -18,7 +18,9 @@ use Rattle.cpus.specs.facts.Rules.{SoundCpus, SoundPhandles}
 use Rattle.cpus.specs.answers.Check.{cpuCount, cpuList, mpidrList}
 use Rattle.cpus.proofs.CpuMeans.{cpu-listing, cpu-count}
 use Rattle.cpumap.specs.facts.Map.{Map}
-use Rattle.topology.specs.facts.Rules.{MapRule}
+use Rattle.cpumap.specs.facts.Rules.{MapRule}
+use Rattle.topology.specs.facts.Rules.{SoundTopology}
+use Rattle.leaves.specs.facts.Rules.{SoundLeaves}
 use Rattle.cpumap.specs.answers.Find.{mapOf}
 use Rattle.cpumap.proofs.MapMeans.{map-of, no-map}
 use Rattle.rows.specs.facts.Fits.{Fits}
@@ -51,20 +53,31 @@ module _
     handles : SoundPhandles b
     handles n p r = none n p (Breaks.phandles r)
 
-    kept : (n p : ℕ) → MapRule b n p → ⊥
+    kept : SoundTopology b
     kept n p r = none n p (Breaks.topology r)
 
+    mapped : SoundLeaves b
+    mapped n p r = none n p (Breaks.leaves r)
+
     the-map : (m : ℕ) × Map b m
-    the-map = ⊎-elim (λ lt. (mapOf (b .nodes) (b .pool), map-of b well lt)) (λ le. absurd (kept 15 0 (MapRule.cpuMapMissing (no-map b well le)))) (lt-or-le (mapOf (b .nodes) (b .pool)) (nodeCount (b .nodes)))
+    the-map =
+        ⊎-elim
+        (λ lt. (mapOf (b .nodes) (b .pool), map-of b well lt))
+        (λ le. absurd (none 15 0 (Breaks.map (MapRule.cpuMapMissing (no-map b well le)))))
+        (lt-or-le (mapOf (b .nodes) (b .pool)) (nodeCount (b .nodes)))
 
     room : rowSize * cpuCount b ≤ length before
-    room = ⊎-elim (λ lt. absurd (none 27 0 (Breaks.rowSpace (cpuList b) (cpu-listing well) (rw (cpu-count b) at lt)))) (λ le. le) (lt-or-le (length before) (rowSize * cpuCount b))
+    room =
+        ⊎-elim
+        (λ lt. absurd (none 27 0 (Breaks.rowSpace (cpuList b) (cpu-listing well) (rw (cpu-count b) at lt))))
+        (λ le. le)
+        (lt-or-le (length before) (rowSize * cpuCount b))
 
     leaves : LeafFacts b
-    leaves = leaf-facts sized well sound handles (the-map .1) kept
+    leaves = leaf-facts sized well sound handles (the-map .1) kept mapped
 
     same : leafCount b ≡ cpuCount b
-    same = leaf-count sized well sound handles (the-map .1) kept
+    same = leaf-count sized well sound handles (the-map .1) kept mapped
 
     has-room : rowSize * leafCount b ≤ length before
     has-room = omega (arith, same, room)
@@ -139,8 +152,10 @@ module _ {b : Board} (sized : WordSized b) (before : List ℕ) where
   map-broken : WellFormed b → SoundCpus b → Room b (length before) → (n p : ℕ) → Breaks b (length before) n p → MapBroken b
   map-broken well sound room n p (Breaks.tables r) = absurd (well n p r)
   map-broken well sound room n p (Breaks.cpus r) = absurd (sound n p r)
+  map-broken well sound room n p (Breaks.map r) = MapBroken.map r
   map-broken well sound room n p (Breaks.phandles r) = MapBroken.phandle r
-  map-broken well sound room n p (Breaks.topology r) = MapBroken.map r
+  map-broken well sound room n p (Breaks.topology r) = MapBroken.topology r
+  map-broken well sound room n p (Breaks.leaves r) = MapBroken.leaf r
   map-broken well sound room n p (Breaks.rowSpace cpus l lt) = absurd (room (Breaks.rowSpace cpus l lt))
 
   exactly : WellFormed b → SoundCpus b → Room b (length before) → (number ≡ 0) ↔ (((m : ℕ) × Map b m) × (MapBroken b → ⊥))
@@ -148,8 +163,10 @@ module _ {b : Board} (sized : WordSized b) (before : List ℕ) where
       (λ z. (the-map sized before (none z), unbroken z), λ t. go (eqb number 0) refl (t .1))
     where
       unbroken : number ≡ 0 → MapBroken b → ⊥
-      unbroken z (MapBroken.map r) = none z _ _ (Breaks.topology r)
+      unbroken z (MapBroken.map r) = none z _ _ (Breaks.map r)
       unbroken z (MapBroken.phandle r) = none z _ _ (Breaks.phandles r)
+      unbroken z (MapBroken.topology r) = none z _ _ (Breaks.topology r)
+      unbroken z (MapBroken.leaf r) = none z _ _ (Breaks.leaves r)
 
       go : (t : Bool) → eqb number 0 ≡ t → (MapBroken b → ⊥) → number ≡ 0
       go true e no-rule = eqb-true number 0 e

@@ -41,7 +41,8 @@ module _ (b : Board) (before : List ℕ) (x y : BoardAnswer) (after other : List
   -- both accept: the cpu records, their MPIDRs and the rows that fit are one each
   both-accept : WellFormed b → x .number ≡ 0 → y .number ≡ 0 → Accepted b before x after → Accepted b before y other → Same
   both-accept well zx zy h g =
-      let count : x .count ≡ y .count = h .count .2 ∙ ap length (listing-unique (h .count .0) (g .count .0) (h .count .1) (g .count .1)) ∙ sym (g .count .2) in
+      let cpus = listing-unique (h .count .0) (g .count .0) (h .count .1) (g .count .1) in
+      let count : x .count ≡ y .count = h .count .2 ∙ ap length cpus ∙ sym (g .count .2) in
       let hash : x .hash ≡ y .hash = hash-unique (rw (mpidrs-unique well (h .hash .1) (g .hash .1)) at (h .hash .2)) (g .hash .2) in
       let rows : take (rowSize * x .count) after ≡ take (rowSize * y .count) other = g .only (take (rowSize * x .count) after) (h .fits) in
       let rest : drop (rowSize * x .count) after ≡ drop (rowSize * y .count) other =

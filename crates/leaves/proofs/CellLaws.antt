@@ -10,6 +10,7 @@ use Rattle.cpus.specs.answers.Cell.{cellIn, cellOf}
 use Rattle.leaves.specs.answers.Check.{cpuCells, indexedCells}
 
 -- a table that finds each record's `cpu` gives its cell
-pub same-cells : (props pool index : List ℕ) → ((i : ℕ) → indexedAt index i Cpu ≡ lookup props pool i cpuKey) → indexedCells props pool index ≡ cpuCells props pool
+pub same-cells :
+    (props pool index : List ℕ) → ((i : ℕ) → indexedAt index i Cpu ≡ lookup props pool i cpuKey) → indexedCells props pool index ≡ cpuCells props pool
 unfolding cellOf
 same-cells props pool index finds = fun-ext (λ i. ap (cellIn props pool) (finds i))

@@ -9,19 +9,21 @@ use Rattle.names.specs.declared.TopologyName.{TopologyName}
 use Rattle.names.specs.facts.Kind.{Kind}
 use Rattle.tables.specs.facts.Board.{Board, WordSized}
 use Rattle.wellformed.specs.facts.Rules.{WellFormed}
-use Rattle.tables.proofs.DepthLaws.{below-test, ancestor-earlier}
 use Rattle.wellformed.proofs.WellFormedLaws.{wf-depth}
 use Rattle.cpus.specs.facts.Rules.{SoundPhandles}
 use Rattle.cpus.specs.answers.Check.{cpuList}
 use Rattle.leaves.specs.declared.RecordCheck.{RecordCheck}
-use Rattle.cpumap.specs.facts.Map.{Map, InMap, Leaf, Names}
+use Rattle.cpumap.specs.facts.Map.{Map, InMap}
 use Rattle.cpumap.specs.answers.Path.{topologyName}
 use Rattle.topology.specs.answers.Check.{hasChild, isLeafName}
 use Rattle.leaves.specs.answers.Scan.{Tree, treeAt, check, isLeaf, cpuOf}
 use Rattle.topology.proofs.ChildMeans.{childless-test}
 use Rattle.cpumap.proofs.NameFacts.{Says, topology-is, topology-says}
-use Rattle.cpumap.proofs.MapMeans.{leaf-in-map, in-map-inside, in-map-below}
-use Rattle.leaves.proofs.CheckCases.{shapeNumber, answers-number, Under, Checked, checked}
+use Rattle.cpumap.proofs.MapMeans.{in-map-inside}
+use Rattle.topology.proofs.ShapeMeans.{leaf-shape, sound-shape}
+use Rattle.leaves.specs.facts.Leaf.{Leaf, Names}
+use Rattle.leaves.proofs.RuleCases.{leaf-in-map}
+use Rattle.leaves.proofs.CheckCases.{Checked, checked}
 use Rattle.leaves.proofs.LeafCount.{leaf-is}
 use Rattle.leaves.proofs.PhandleMeans.{cpuAt, cpuIndex, in-cpus}
 use Rattle.leaves.proofs.LeafMeans.{index-names, names-index}
@@ -47,17 +49,6 @@ module _ {b : Board} (well : WellFormed b) (i : ℕ) where
   leaf-name (Leaf.aCore s t none) =
       rw (topology-is b well i Kind.core (t .0) (in-map-inside s) .1 (t .1), childless-test (b .nodes) (wf-depth well) i .1 none)
 
--- a record under the map
-module _ {b : Board} {m : ℕ} (is-map : Map b m) (i : ℕ) where
-  pub under-in-map : Under (treeAt b m) i → InMap b i
-  under-in-map u = record { root = m; is-map = is-map; below = below-test m i .0 (u .below) }
-
-  pub in-map-under : InMap b i → Under (treeAt b m) i
-  in-map-under s =
-      let a = in-map-below b m is-map i s in
-      let lt = ancestor-earlier a in
-      record { not-top = λ e. omega arith; not-map = λ e. omega arith; below = below-test m i .1 a }
-
 module _ {b : Board} (sized : WordSized b) (well : WellFormed b) (handles : SoundPhandles b) {m : ℕ} (is-map : Map b m) (i : ℕ) where
   abbrev t : Tree
   t = treeAt b m
@@ -65,24 +56,23 @@ module _ {b : Board} (sized : WordSized b) (well : WellFormed b) (handles : Soun
   -- a record that the check answers as a leaf is one, and names the cpu record answered
   pub check-leaf : isLeaf t i ≡ true → Leaf b i × Names b i (cpuAt b (cpuOf t i)) × (cpuOf t i < length (cpuList b))
   check-leaf h =
-      let n = leaf-is t i h in (
-        name-leaf well i (under-in-map is-map i (n .under)) (n .name),
+      let n = leaf-is t i h in
+      let s = leaf-shape b is-map i (n .leaf) in (
+        name-leaf well i (s .0) (s .2),
         rw (n .cpu) (index-names sized well handles i (rw (n .cpu) at (n .inside))),
         in-cpus b (n .inside),
       )
 
   -- a leaf at which the check answers no number is answered as one
   pub leaf-check : Leaf b i → check t i .number ≡ 0 → isLeaf t i ≡ true
-  leaf-check l z = go (in-map-under is-map i (leaf-in-map l)) (checked t i)
+  leaf-check l z = go (checked t i)
     where
-      go : Under t i → Checked t i → isLeaf t i ≡ true
-      go u (Checked.top e a) = absurd (u .not-top e)
-      go u (Checked.map n e a) = absurd (u .not-map e)
-      go u (Checked.outside n k e a) = true-false (u .below) e
-      go u (Checked.misshapen v n a) = absurd (n (sym (answers-number t i (shapeNumber t i) a) ∙ z))
-      go u (Checked.inner v e f a) = true-false (leaf-name well i l) f
-      go u (Checked.nameless v e f le a) = let q = sym (answers-number t i 24 a) ∙ z in absurd (omega arith)
-      go u (Checked.leaf v e f lt a) = ap (λ (r : RecordCheck). r .leaf) a
+      go : Checked t i → isLeaf t i ≡ true
+      go (Checked.inner f a) =
+          let shape = sound-shape b is-map i (leaf-in-map l) (sym (ap (λ (r : RecordCheck). r .number) a) ∙ z) in
+          true-false (shape .1 ∙ leaf-name well i l) f
+      go (Checked.nameless f le a) = let q = sym (ap (λ (r : RecordCheck). r .number) a) ∙ z in absurd (omega arith)
+      go (Checked.leaf f lt a) = ap (λ (r : RecordCheck). r .leaf) a
 
   -- the cpu answered is the index of the cpu record that the leaf names
   pub names-cpu : (c : ℕ) → isLeaf t i ≡ true → Names b i c → cpuOf t i ≡ cpuIndex b c

@@ -35,7 +35,8 @@ module _ (t : Tree) where
 
   marked-none : {marks : List ℕ} → marks ≡ replicate 256 0 → Marked t 0 marks
   unfolding namedBelow anyBelow
-  marked-none {marks} e = record { size = ap length e ∙ length-replicate {A = ℕ} 256 0; each = λ k. ap (λ (l : List ℕ). getD l k 0) e ∙ go k (lt-or-le k 256) }
+  marked-none {marks} e =
+      record { size = ap length e ∙ length-replicate {A = ℕ} 256 0; each = λ k. ap (λ (l : List ℕ). getD l k 0) e ∙ go k (lt-or-le k 256) }
     where
       go : (k : ℕ) → (k < 256) ⊎ (256 ≤ k) → getD {A = ℕ} (replicate 256 0) k 0 ≡ 0
       go k (inl lt) = rw (getD-replicate {A = ℕ} 256 k 0 0 lt)
@@ -73,7 +74,9 @@ module _ (t : Tree) (leaves₀ named₀ : List ℕ) where
     pub fault-is : {r : RecordCheck} {v : ℕ} → r ≡ check t i → v ≡ checkedFault marks r → v ≡ treeFault t i
     unfolding treeFault
     fault-is e f =
-        f ∙ ap (checkedFault marks) e ∙ ap (λ (b : Bool). orNumber (check t i .number) (cond (isLeaf t i) (cond b 25 0) 0)) (marked-is t (g .marks-are) (cpuOf t i))
+        f
+        ∙ ap (checkedFault marks) e
+        ∙ ap (λ (b : Bool). orNumber (check t i .number) (cond (isLeaf t i) (cond b 25 0) 0)) (marked-is t (g .marks-are) (cpuOf t i))
 
     -- what is left in the arrays where the pass ends at record i
     abbrev LeftHere : Type 0
@@ -136,7 +139,8 @@ module _ (t : Tree) (leaves₀ named₀ : List ℕ) where
               leaves-are = listed-yes (isLeaf t) i leaves₀ (g .counted) (g .leaves-are) h;
               named-are =
                   ap₂ (λ (x : List ℕ) (y : ℕ). set x count y) (g .named-are) q
-                  ∙ over-add (map (cpuOf t) (listBelow (isLeaf t) i)) named₀ (cpuOf t i) count (gathered-length (isLeaf t) (cpuOf t) i ∙ sym (g .counted))
+                  ∙ over-add (map (cpuOf t) (listBelow (isLeaf t) i)) named₀ (cpuOf t i) count
+                  (gathered-length (isLeaf t) (cpuOf t) i ∙ sym (g .counted))
                   ∙ ap (λ (x : List ℕ). laidOver x named₀) (sym (gathered-more (isLeaf t) (cpuOf t) i h));
               marks-are = mark-push t (g .marks-are) q lt h;
             }

@@ -16,13 +16,11 @@ use Rattle.laws.proofs.IndexLaws.{listing-below}
 use Rattle.laws.specs.facts.Limits.{maxCpus}
 use Rattle.leaves.specs.declared.RecordCheck.{RecordCheck}
 use Rattle.leaves.specs.answers.Scan.{Tree, check, isLeaf, cpuOf, namedBelow, repeatFault, treeFault}
-use Rattle.leaves.proofs.CheckCases.{shapeNumber, leafName, named, Answers, Under, Checked, checked}
+use Rattle.leaves.proofs.CheckCases.{shapeOf, named, Answers, Checked, checked}
 
 -- a record that the check answers as a leaf
 pub record Naming (t : Tree) (i : ℕ) : Type 0 where
-  pub under : Under t i
-  pub shape : shapeNumber t i ≡ 0
-  pub name : leafName t i ≡ true
+  pub leaf : shapeOf t i .leaf ≡ true
   pub cpu : cpuOf t i ≡ named t i
   pub inside : cpuOf t i < length (t .phandles)
   pub number : check t i .number ≡ 0
@@ -35,15 +33,11 @@ module _ (t : Tree) where
   leaf-is i h = go (checked t i)
     where
       go : Checked t i → Naming t i
-      go (Checked.top e a) = not-leaf i a h
-      go (Checked.map n e a) = not-leaf i a h
-      go (Checked.outside n m e a) = not-leaf i a h
-      go (Checked.misshapen u n a) = not-leaf i a h
-      go (Checked.inner u z l a) = not-leaf i a h
-      go (Checked.nameless u z l le a) = not-leaf i a h
-      go (Checked.leaf u z l lt a) =
+      go (Checked.inner f a) = not-leaf i a h
+      go (Checked.nameless f le a) = not-leaf i a h
+      go (Checked.leaf f lt a) =
           let e : cpuOf t i ≡ named t i = ap (λ (r : RecordCheck). r .cpu) a in
-          record { under = u; shape = z; name = l; cpu = e; inside = rw e lt; number = ap (λ (r : RecordCheck). r .number) a }
+          record { leaf = f; cpu = e; inside = rw e lt; number = ap (λ (r : RecordCheck). r .number) a }
 
   -- whether a leaf below n names cpu k
   pub named-at : (n j : ℕ) → j < n → isLeaf t j ≡ true → namedBelow t n (cpuOf t j) ≡ true

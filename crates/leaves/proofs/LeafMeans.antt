@@ -20,7 +20,7 @@ use Rattle.cpus.specs.facts.Rules.{SoundPhandles}
 use Rattle.cpus.specs.answers.Cell.{cellOf}
 use Rattle.cpus.specs.answers.Check.{cpuList, phandleList}
 use Rattle.cpus.proofs.ValueMeans.{value-unique, cell-test, test-cell}
-use Rattle.cpumap.specs.facts.Map.{Names}
+use Rattle.leaves.specs.facts.Leaf.{Names}
 use Rattle.leaves.specs.answers.Check.{indexOf, leafCpu, cpuCells}
 use Rattle.leaves.proofs.PhandleMeans.{cpuAt, cpuIndex, in-cpus, in-phandles, cpu-index, index-cpu, phandle-at, index-apart}
 
@@ -34,7 +34,11 @@ module _ {b : Board} (sized : WordSized b) (well : WellFormed b) (handles : Soun
   unfolding leafCpu
   index-names i = go (cellOf (b .props) (b .pool) i cpuKey) refl
     where
-      go : (x : Value) → cellOf (b .props) (b .pool) i cpuKey ≡ x → indexOf (phandleList b) x < length (phandleList b) → Names b i (cpuAt b (indexOf (phandleList b) x))
+      go :
+          (x : Value) →
+          cellOf (b .props) (b .pool) i cpuKey ≡ x →
+          indexOf (phandleList b) x < length (phandleList b) →
+          Names b i (cpuAt b (indexOf (phandleList b) x))
       go Invalid e lt = absurd (omega arith)
       go (Number w) e lt =
           let test : ℕ → Bool = λ j. eqb (getD (phandleList b) j 0) w in

@@ -1,6 +1,7 @@
--- Rules 24 to 26 at one place: what they say, and the numbers told of them. Assumes well-formed tables and phandles for the numbers.
+-- Rules 25 and 26 at one place: what they say, and the numbers told of them. Assumes well-formed tables and phandles for the numbers.
 use mathlib.Core.Path.{_≡_, refl, sym, _∙_}
 use mathlib.Core.Bool.{Bool, true, false, cond}
+use mathlib.Core.Logic.{inr}
 use Prim.Native.Nat.{ℕ, _≤_, _<_}
 use native.Mathlib.Omega.{arith}
 use Rattle.laws.specs.answers.Search.{countBelow}
@@ -13,9 +14,10 @@ use Rattle.cpus.specs.facts.Node.{Cpu}
 use Rattle.cpus.specs.facts.Rules.{SoundPhandles}
 use Rattle.cpus.specs.answers.Check.{isCpu}
 use Rattle.cpus.proofs.CpuMeans.{cpu-test}
-use Rattle.cpumap.specs.facts.Map.{Map, Leaf, Names}
-use Rattle.cpumap.proofs.MapMeans.{leaf-in-map, in-map-inside}
-use Rattle.topology.specs.facts.Rules.{MapRule}
+use Rattle.cpumap.specs.facts.Map.{Map}
+use Rattle.leaves.specs.facts.Leaf.{Leaf, Names}
+use Rattle.leaves.specs.facts.Rules.{LeafRule}
+use Rattle.leaves.proofs.RuleCases.{TreeRule, leaf-inside}
 use Rattle.leaves.specs.answers.Scan.{Tree, treeAt, check, isLeaf, cpuOf, namedBelow, repeatFault}
 use Rattle.leaves.proofs.LeafCount.{named-at, named-by}
 use Rattle.leaves.proofs.PhandleMeans.{cpuAt, cpuIndex, cpu-index}
@@ -26,49 +28,37 @@ unfoldable pub unmappedFault : Tree → ℕ → ℕ
 unmappedFault t i =
     cond (isCpu (t .nodes) (t .pool) i) (cond (namedBelow t (nodeCount (t .nodes)) (countBelow (isCpu (t .nodes) (t .pool)) i)) 0 26) 0
 
--- leaf i names a cpu record that an earlier leaf names
-abbrev Twice : Board → ℕ → Type 0
-Twice b i = (j : ℕ) × (c : ℕ) × Leaf b i × Leaf b j × (j < i) × Names b i c × Names b j c
-
-module _ {b : Board} {i : ℕ} where
-  pub rule-24 : MapRule b 24 i → Leaf b i × ((c : ℕ) → Names b i c → ⊥)
-  rule-24 (MapRule.cpuMapPhandle _ l none) = (l, none)
-
-  pub rule-25 : MapRule b 25 i → Twice b i
-  rule-25 (MapRule.cpuMapCpuRepeated _ j c l k lt m n) = (j, c, l, k, lt, m, n)
-
-  pub rule-26 : MapRule b 26 i → Cpu b i × ((j : ℕ) → Leaf b j → Names b j i → ⊥)
-  rule-26 (MapRule.cpuUnmapped _ cpu none) = (cpu, none)
+-- what the rule says of a record
+rule-26 : {b : Board} {i : ℕ} → LeafRule b 26 i → Cpu b i × ((j : ℕ) → Leaf b j → Names b j i → ⊥)
+rule-26 (LeafRule.cpuUnmapped _ cpu none) = (cpu, none)
 
 module _ {b : Board} (sized : WordSized b) (well : WellFormed b) (handles : SoundPhandles b) {m : ℕ} (is-map : Map b m) where
   abbrev t : Tree
   t = treeAt b m
 
   -- rule 25 at record i, where the check answers nothing of the records up to i
-  pub repeat-tested : (i : ℕ) → ((k : ℕ) → k ≤ i → check t k .number ≡ 0) → Tested 25 (MapRule b 25 i) (repeatFault t i)
+  pub repeat-tested : (i : ℕ) → ((k : ℕ) → k ≤ i → check t k .number ≡ 0) → Tested 25 (LeafRule b 25 i) (repeatFault t i)
   repeat-tested i clean = go (isLeaf t i) refl (namedBelow t i (cpuOf t i)) refl
     where
       found : (j : ℕ) → Leaf b j → j ≤ i → isLeaf t j ≡ true
       found j l le = leaf-check sized well handles is-map j l (clean j le)
 
-      broken : isLeaf t i ≡ true → namedBelow t i (cpuOf t i) ≡ true → MapRule b 25 i
+      broken : isLeaf t i ≡ true → namedBelow t i (cpuOf t i) ≡ true → LeafRule b 25 i
       broken h e =
           let w = named-by t i (cpuOf t i) e in
           let here = check-leaf sized well handles is-map i h in
           let there = check-leaf sized well handles is-map (w .0) (w .2) in
-          MapRule.cpuMapCpuRepeated i (w .0) (cpuAt b (cpuOf t i)) (here .0) (there .0) (w .1) (here .1) (rw (w .3) at (there .1))
+          LeafRule.cpuMapCpuRepeated i (w .0) (cpuAt b (cpuOf t i)) (here .0) (there .0) (w .1) (here .1) (rw (w .3) at (there .1))
 
-      named-twice : MapRule b 25 i → (isLeaf t i ≡ true) × (namedBelow t i (cpuOf t i) ≡ true)
-      named-twice r =
-          let w = rule-25 r in
-          let lt = w .4 in
-          let li = found i (w .2) (omega arith) in
-          let lj = found (w .0) (w .3) (omega arith) in
-          let there = names-cpu sized well handles is-map (w .0) (w .1) lj (w .6) in
-          let same : cpuOf t (w .0) ≡ cpuOf t i = there ∙ sym (names-cpu sized well handles is-map i (w .1) li (w .5)) in
-          (li, rw same at (named-at t i (w .0) lt lj))
+      named-twice : LeafRule b 25 i → (isLeaf t i ≡ true) × (namedBelow t i (cpuOf t i) ≡ true)
+      named-twice (LeafRule.cpuMapCpuRepeated _ j c l k lt m n) =
+          let li = found i l (omega arith) in
+          let lj = found j k (omega arith) in
+          let there = names-cpu sized well handles is-map j c lj n in
+          let same : cpuOf t j ≡ cpuOf t i = there ∙ sym (names-cpu sized well handles is-map i c li m) in
+          (li, rw same at (named-at t i j lt lj))
 
-      go : (l : Bool) → isLeaf t i ≡ l → (s : Bool) → namedBelow t i (cpuOf t i) ≡ s → Tested 25 (MapRule b 25 i) (repeatFault t i)
+      go : (l : Bool) → isLeaf t i ≡ l → (s : Bool) → namedBelow t i (cpuOf t i) ≡ s → Tested 25 (LeafRule b 25 i) (repeatFault t i)
       go true e true f = rw (e, f) (Tested.broken (broken e f))
       go true e false f = rw (e, f) (Tested.sound (λ r. true-false (named-twice r .1) f))
       go false e s f = rw e (Tested.sound (λ r. true-false (named-twice r .0) e))
@@ -84,16 +74,16 @@ module _ {b : Board} (sized : WordSized b) (well : WellFormed b) (handles : Soun
   module _ (clean : (k : ℕ) → k < nodeCount (b .nodes) → check t k .number ≡ 0) where
     pub cpu-unnamed : (c : ℕ) → namedBelow t (nodeCount (b .nodes)) (cpuIndex b c) ≡ false → (i : ℕ) → Leaf b i → Names b i c → ⊥
     cpu-unnamed c e i l n =
-        let lt = in-map-inside (leaf-in-map l) in
+        let lt = leaf-inside l in
         let h = leaf-check sized well handles is-map i l (clean i lt) in
         true-false (rw (names-cpu sized well handles is-map i c h n) at (named-at t (nodeCount (b .nodes)) i lt h)) e
 
     -- rule 26 at record i
-    pub unmapped-told : (i : ℕ) → Verdict (MapRule b) 26 i (MapRule b 26 i → ⊥) (unmappedFault t i)
+    pub unmapped-told : (i : ℕ) → Verdict (TreeRule b) 26 i (LeafRule b 26 i → ⊥) (unmappedFault t i)
     unfolding unmappedFault
     unmapped-told i = go (isCpu (b .nodes) (b .pool) i) refl (namedBelow t (nodeCount (b .nodes)) (cpuIndex b i)) refl
       where
-        kept : namedBelow t (nodeCount (b .nodes)) (cpuIndex b i) ≡ true → MapRule b 26 i → ⊥
+        kept : namedBelow t (nodeCount (b .nodes)) (cpuIndex b i) ≡ true → LeafRule b 26 i → ⊥
         kept e r = let w = rule-26 r in let s = cpu-named i (w .0) e in w .1 (s .0) (s .1) (s .2)
 
         go :
@@ -101,7 +91,7 @@ module _ {b : Board} (sized : WordSized b) (well : WellFormed b) (handles : Soun
             isCpu (b .nodes) (b .pool) i ≡ l →
             (s : Bool) →
             namedBelow t (nodeCount (b .nodes)) (cpuIndex b i) ≡ s →
-            Verdict (MapRule b) 26 i (MapRule b 26 i → ⊥) (cond l (cond s 0 26) 0)
+            Verdict (TreeRule b) 26 i (LeafRule b 26 i → ⊥) (cond l (cond s 0 26) 0)
         go true e true f = Verdict.sound (kept f)
-        go true e false f = Verdict.broken (MapRule.cpuUnmapped i (cpu-test well i .0 e) (cpu-unnamed i f))
+        go true e false f = Verdict.broken (inr (LeafRule.cpuUnmapped i (cpu-test well i .0 e) (cpu-unnamed i f)))
         go false e s f = Verdict.sound (λ r. true-false (cpu-test well i .1 (rule-26 r .0)) e)

@@ -1,4 +1,5 @@
 -- Laws that belong to no one function.
+pub mod RuleCases
 pub mod CellLaws
 pub mod PhandleMeans
 pub mod CheckCases

@@ -54,11 +54,18 @@ module _ (t : Tree) (records : List ℕ) where
       first-zero = sym number-is ∙ z
 
       -- the second pass looks for rule 26 among the marks of all leaves
-      pub last-is : {marks : List ℕ} {f : Fault} → Marked t (passed t) marks → f ≡ faultOfMember records (firstFault (unmarkedFault marks) (length records)) → f ≡ last
+      pub last-is :
+          {marks : List ℕ} {f : Fault} →
+          Marked t (passed t) marks →
+          f ≡ faultOfMember records (firstFault (unmarkedFault marks) (length records)) →
+          f ≡ last
       unfolding unmarkedFault
       last-is {marks} m h =
           let all : Marked t (nodeCount (t .nodes)) marks = rw (eq-eqb (first .number) 0 first-zero) at m in
-          h ∙ ap (faultOfMember records) (first-same (unmarkedFault marks) (λ k. cond (namedBelow t (nodeCount (t .nodes)) k) 0 26) (length records) (λ k lt _. ap (λ (b : Bool). cond b 0 26) (marked-is t all k)))
+          h
+          ∙ ap (faultOfMember records)
+          (first-same (unmarkedFault marks) (λ k. cond (namedBelow t (nodeCount (t .nodes)) k) 0 26) (length records)
+          (λ k lt _. ap (λ (b : Bool). cond b 0 26) (marked-is t all k)))
 
       module _ {f : Fault} (h : f ≡ last) where
         second : scanned t f ≡ treeScan t records
@@ -85,7 +92,8 @@ module _ (t : Tree) (records : List ℕ) (z : leavesFault t records .number ≡ 
   first-clear = first-clears (treeFault t) (nodeCount (t .nodes)) (or-clear (firstFault (treeFault t) (nodeCount (t .nodes))) _ z .0)
 
   pub leaves-few : length (leafList t) ≤ length (t .phandles)
-  leaves-few = leaves-le t (nodeCount (t .nodes)) (clear-apart t (nodeCount (t .nodes)) (below-clear (treeFault t) (nodeCount (t .nodes)) first-clear))
+  leaves-few =
+      leaves-le t (nodeCount (t .nodes)) (clear-apart t (nodeCount (t .nodes)) (below-clear (treeFault t) (nodeCount (t .nodes)) first-clear))
 
   pub leaves-listed : (before : List ℕ) → leavesOver t before ≡ laidOver (leafList t) before
   leaves-listed before = rw first-clear

@@ -15,10 +15,12 @@ use Rattle.laws.specs.facts.Limits.{maxCpus}
 use Rattle.cpus.specs.facts.Rules.{SoundCpus, SoundPhandles}
 use Rattle.cpus.specs.answers.Check.{cpuList}
 use Rattle.cpus.proofs.CpuMeans.{cpu-listing}
-use Rattle.cpumap.specs.facts.Map.{Map, Leaf, Names}
-use Rattle.cpumap.proofs.MapMeans.{leaf-in-map, in-map-inside}
-use Rattle.topology.specs.facts.Rules.{MapRule}
+use Rattle.cpumap.specs.facts.Map.{Map}
+use Rattle.topology.specs.facts.Rules.{SoundTopology}
+use Rattle.leaves.specs.facts.Leaf.{Leaf, Names}
+use Rattle.leaves.specs.facts.Rules.{LeafRule, SoundLeaves}
 use Rattle.leaves.specs.answers.Scan.{Tree, treeAt, check, isLeaf, cpuOf, namedBelow, leafList}
+use Rattle.leaves.proofs.RuleCases.{leaf-inside}
 use Rattle.leaves.proofs.PhandleMeans.{cpuAt, cpuIndex, phandle-count, few-phandles}
 use Rattle.leaves.proofs.LeafMeans.{names-unique}
 use Rattle.leaves.proofs.CheckLeaf.{check-leaf, leaf-check}
@@ -33,21 +35,22 @@ module _
     (handles : SoundPhandles b)
     {m : ℕ}
     (is-map : Map b m)
-    (sound : (n p : ℕ) → MapRule b n p → ⊥)
+    (topology : SoundTopology b)
+    (leaves : SoundLeaves b)
   where
     abbrev t : Tree
     t = treeAt b m
 
     clean : (k : ℕ) → k < nodeCount (b .nodes) → check t k .number ≡ 0
-    clean = sound-checks sized well cpus handles is-map (λ n p r _. sound n p r)
+    clean = sound-checks sized well cpus handles is-map (λ n p r _. ⊎-elim (topology n p) (leaves n p) r)
 
     -- every leaf is answered as one
     pub leaf-answered : (i : ℕ) → Leaf b i → isLeaf t i ≡ true
-    leaf-answered i l = leaf-check sized well handles is-map i l (clean i (in-map-inside (leaf-in-map l)))
+    leaf-answered i l = leaf-check sized well handles is-map i l (clean i (leaf-inside l))
 
     pub leaf-listing : Listing (Leaf b) (leafList t)
     leaf-listing =
-        listed (isLeaf t) (nodeCount (b .nodes)) (λ i l. (in-map-inside (leaf-in-map l), leaf-answered i l))
+        listed (isLeaf t) (nodeCount (b .nodes)) (λ i l. (leaf-inside l, leaf-answered i l))
         (λ i _ h. check-leaf sized well handles is-map i h .0)
 
     -- every leaf names the cpu record answered ..
@@ -61,8 +64,8 @@ module _
     pub leaves-apart : (i j c : ℕ) → Leaf b i → Leaf b j → Names b i c → Names b j c → i ≡ j
     leaves-apart i j c l k p q =
         ⊎-elim
-        (λ lt. absurd (sound 25 j (MapRule.cpuMapCpuRepeated j i c k l lt q p)))
-        (⊎-elim (λ e. e) (λ lt. absurd (sound 25 i (MapRule.cpuMapCpuRepeated i j c l k lt p q))))
+        (λ lt. absurd (leaves 25 j (LeafRule.cpuMapCpuRepeated j i c k l lt q p)))
+        (⊎-elim (λ e. e) (λ lt. absurd (leaves 25 i (LeafRule.cpuMapCpuRepeated i j c l k lt p q))))
         (compared i j)
 
     -- .. and every cpu record is named
@@ -71,13 +74,14 @@ module _
       where
         go : (s : Bool) → namedBelow t (nodeCount (b .nodes)) (cpuIndex b c) ≡ s → (i : ℕ) × Leaf b i × Names b i c
         go true e = cpu-named sized well handles is-map c cpu e
-        go false e = absurd (sound 26 c (MapRule.cpuUnmapped c cpu (cpu-unnamed sized well handles is-map clean c e)))
+        go false e = absurd (leaves 26 c (LeafRule.cpuUnmapped c cpu (cpu-unnamed sized well handles is-map clean c e)))
 
     -- so there are as many leaves as cpu records
     pub same-count : length (leafList t) ≡ length (cpuList b)
     same-count =
         le-antisymm
-        (listing-into {R = Names b} (leafList t) (cpuList b) leaf-listing (cpu-listing well) (λ i l. let n = leaf-names i l in (cpuAt b (cpuOf t i), n .is-cpu, n)) leaves-apart)
+        (listing-into {R = Names b} (leafList t) (cpuList b) leaf-listing (cpu-listing well)
+        (λ i l. let n = leaf-names i l in (cpuAt b (cpuOf t i), n .is-cpu, n)) leaves-apart)
         (listing-into {R = λ c i. Names b i c} (cpuList b) (leafList t) (cpu-listing well) leaf-listing cpu-leaf
         (λ c d i _ _. names-unique sized well handles i c d))
 

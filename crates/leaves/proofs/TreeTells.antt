@@ -1,6 +1,7 @@
 -- The first broken one of rules 18 to 26 is told. Assumes well-formed tables, sound cpu nodes and phandles.
 use mathlib.Core.Path.{_≡_, refl}
 use mathlib.Core.Bool.{cond}
+use mathlib.Core.Logic.{inl, inr}
 use Prim.Native.Nat.{ℕ, _≤_, _<_}
 use native.Mathlib.Omega.{arith}
 use Rattle.laws.specs.declared.Fault.{Fault}
@@ -16,11 +17,12 @@ use Rattle.wellformed.specs.facts.Rules.{WellFormed}
 use Rattle.cpus.specs.facts.Rules.{SoundCpus, SoundPhandles}
 use Rattle.cpus.specs.answers.Check.{isCpu, cpuList}
 use Rattle.cpumap.specs.facts.Map.{Map}
-use Rattle.topology.specs.facts.Rules.{MapRule}
-use Rattle.topology.proofs.RuleCases.{Staged, staged, place, place-inside}
+use Rattle.topology.proofs.RuleCases as topology
+use Rattle.leaves.specs.facts.Rules.{LeafRule}
 use Rattle.leaves.specs.answers.Scan.{Tree, treeAt, namedBelow, treeFault, leavesFault}
+use Rattle.leaves.proofs.RuleCases.{TreeRule}
 use Rattle.leaves.proofs.LeafRules.{unmappedFault, unmapped-told}
-use Rattle.leaves.proofs.TreeLeast.{sound-checks, tree-least}
+use Rattle.leaves.proofs.TreeLeast.{records-stage, sound-checks}
 
 -- the leaves' stages, place by place: rule 26 told of the cpu records of the tables
 module _ (b : Board) (m : ℕ) where
@@ -32,11 +34,15 @@ module _ (b : Board) (m : ℕ) where
 
   leaf-places : leavesFault (treeAt b m) (cpuList b) ≡ orElse here there
   unfolding leavesFault unmappedFault
-  leaf-places = rw (first-listed (isCpu (b .nodes) (b .pool)) (λ k _. cond (namedBelow (treeAt b m) (nodeCount (b .nodes)) k) 0 26) (nodeCount (b .nodes)))
+  leaf-places =
+      rw (first-listed (isCpu (b .nodes) (b .pool)) (λ k _. cond (namedBelow (treeAt b m) (nodeCount (b .nodes)) k) 0 26) (nodeCount (b .nodes)))
 
   -- a place told is at most the number of records
   pub leaves-place : leavesFault (treeAt b m) (cpuList b) .place ≤ nodeCount (b .nodes)
-  leaves-place = rw leaf-places (else-place here there (place-le (treeFault (treeAt b m)) (nodeCount (b .nodes))) (λ _. place-le (unmappedFault (treeAt b m)) (nodeCount (b .nodes))))
+  leaves-place =
+      rw leaf-places
+      (else-place here there (place-le (treeFault (treeAt b m)) (nodeCount (b .nodes))) λ _.
+      place-le (unmappedFault (treeAt b m)) (nodeCount (b .nodes)))
 
 module _ {b : Board} (sized : WordSized b) (well : WellFormed b) (sound : SoundCpus b) (handles : SoundPhandles b) {m : ℕ} (is-map : Map b m) where
   abbrev t : Tree
@@ -45,22 +51,22 @@ module _ {b : Board} (sized : WordSized b) (well : WellFormed b) (sound : SoundC
   abbrev count : ℕ
   count = nodeCount (b .nodes)
 
-  -- the stage of rules 18 to 25, and that of rule 26
-  records-stage : Stage stage (MapRule b) (stage 18) count (treeFault t)
-  records-stage =
-      record { inside = λ n p r e. place-inside (place r e); smallest = λ i lt clean. tree-least sized well sound handles is-map i clean lt }
+  -- the stage of rule 26, after that of rules 18 to 25
+  unmapped-broken : {n p : ℕ} → TreeRule b n p → stage n ≡ stage 26 → (n ≡ 26) × (p < count) × ((LeafRule b 26 p → ⊥) → ⊥)
+  unmapped-broken (inl r) e = absurd (omega (arith, topology.staged r .0))
+  unmapped-broken (inr (LeafRule.cpuMapPhandle _ _ _)) e = absurd (omega arith)
+  unmapped-broken (inr (LeafRule.cpuMapCpuRepeated _ _ _ _ _ _ _ _)) e = absurd (omega arith)
+  unmapped-broken (inr (LeafRule.cpuUnmapped c cpu no-leaf)) _ = (refl, cpu .child .inside, λ none. none (LeafRule.cpuUnmapped c cpu no-leaf))
 
-  unmapped-broken : {n p : ℕ} → Staged b (stage 26) n p → MapRule b n p → (n ≡ 26) × (p < count) × ((MapRule b 26 p → ⊥) → ⊥)
-  unmapped-broken (Staged.unmapped cpu) r = (refl, cpu .child .inside, λ none. none r)
-
-  unmapped-stage : ((n p : ℕ) → MapRule b n p → stage n ≡ stage 18 → ⊥) → Stage stage (MapRule b) (stage 26) count (unmappedFault t)
+  unmapped-stage : ((n p : ℕ) → TreeRule b n p → stage n ≡ stage 18 → ⊥) → Stage stage (TreeRule b) (stage 26) count (unmappedFault t)
   unmapped-stage none =
-      number-stage stage (MapRule b) 26 (omega arith) (λ p. MapRule b 26 p → ⊥) (λ n p r e. unmapped-broken (rw e at (staged r)) r)
+      number-stage stage (TreeRule b) 26 (omega arith) (λ p. LeafRule b 26 p → ⊥) (λ n p. unmapped-broken)
       (λ i _ _. unmapped-told sized well handles is-map (sound-checks sized well sound handles is-map none) i)
 
   -- what the scan of the tree tells
-  pub tree-tells : Tells stage (MapRule b) (stage 18) (stage 27) (leavesFault t (cpuList b))
+  pub tree-tells : Tells stage (TreeRule b) (stage 18) (stage 27) (leavesFault t (cpuList b))
   tree-tells =
       rw (leaf-places b m)
-      (then-tells stage (MapRule b) (omega arith) (omega arith) (stage-tells stage (MapRule b) (stage 18) count (treeFault t) records-stage) λ none.
-      stage-tells stage (MapRule b) (stage 26) count (unmappedFault t) (unmapped-stage (λ n p r e. none n p (r, omega arith, omega arith))))
+      (then-tells stage (TreeRule b) (omega arith) (omega arith)
+      (stage-tells stage (TreeRule b) (stage 18) count (treeFault t) (records-stage sized well sound handles is-map)) λ none.
+      stage-tells stage (TreeRule b) (stage 26) count (unmappedFault t) (unmapped-stage (λ n p r e. none n p (r, omega arith, omega arith))))

@@ -1,3 +1,4 @@
--- What the contracts of `leaves` cite.
+-- What the contracts of `leaves` cite, and leaves and rules 24 to 26 as facts.
+pub mod facts
 pub mod answers
 pub mod steps

@@ -18,7 +18,9 @@ pub fn record_check(
     phandles: &[u64],
     i: usize,
 ) -> RecordCheck
-    ensures { λ r. ⌜ r ≡ recordCheck (now (nodes .entry)) (indexedCells (now (props .entry)) (now (pool .entry)) (now (index .entry))) (now (pool .entry)) map (now (phandles .entry)) i ⌝ }
+    ensures { λ r.
+        let cells = indexedCells (now (props .entry)) (now (pool .entry)) (now (index .entry)) in
+        ⌜ r ≡ recordCheck (now (nodes .entry)) cells (now (pool .entry)) map (now (phandles .entry)) i ⌝ }
 {
     let shape = record_shape(nodes, pool, map, i);
     if shape.leaf {

@@ -51,7 +51,8 @@ pub fn refuse(number: u32, place: usize) -> TreeScan
     }
 }
 
-// How many leaves there are, or the first of rules 18 to 25 that is broken. The leaves up to the record that breaks one are listed, and the cpus that they name listed and marked.
+// How many leaves there are, or the first of rules 18 to 25 that is broken. The leaves up to the record that breaks one are
+// listed, and the cpus that they name listed and marked.
 pub fn scan_records(
     nodes: &[u32],
     props: &[u32],
@@ -66,10 +67,12 @@ pub fn scan_records(
     requires few { ⌜ (length (now phandles) ≤ maxCpus) × (nodeCount (now nodes) ≤ maxNodes) ⌝ }
     requires marks { ⌜ now marks ≡ replicate maxCpus 0 ⌝ }
     ensures answer { λ r.
-        let t = tree (now (nodes .entry)) (indexedCells (now (props .entry)) (now (pool .entry)) (now (index .entry))) (now (pool .entry)) map (now (phandles .entry)) in
+        let cells = indexedCells (now (props .entry)) (now (pool .entry)) (now (index .entry)) in
+        let t = tree (now (nodes .entry)) cells (now (pool .entry)) map (now (phandles .entry)) in
         ⌜ r ≡ leafScan t ⌝ }
     ensures arrays { λ _.
-        let t = tree (now (nodes .entry)) (indexedCells (now (props .entry)) (now (pool .entry)) (now (index .entry))) (now (pool .entry)) map (now (phandles .entry)) in
+        let cells = indexedCells (now (props .entry)) (now (pool .entry)) (now (index .entry)) in
+        let t = tree (now (nodes .entry)) cells (now (pool .entry)) map (now (phandles .entry)) in
         ⌜ PassArrays t (now (leaves .entry)) (now (named .entry)) (now (marks .exit)) (now (leaves .exit)) (now (named .exit)) ⌝ }
 {
     let n = nodes.len() / 3;

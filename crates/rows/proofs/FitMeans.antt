@@ -15,10 +15,11 @@ use Rattle.cpus.specs.answers.Check.{mpidrAt, mpidrList}
 use Rattle.cpus.proofs.PairMeans.{mpidr-parts}
 use Rattle.cpus.proofs.RegMeans.{reg-bounds}
 use Rattle.cpus.proofs.CpuGives.{cpu-reg}
-use Rattle.cpumap.specs.facts.Map.{Map, Leaf, Names}
-use Rattle.topology.specs.facts.Rules.{MapRule}
+use Rattle.cpumap.specs.facts.Map.{Map}
+use Rattle.topology.specs.facts.Rules.{SoundTopology}
+use Rattle.leaves.specs.facts.Leaf.{Leaf, Names}
 use Rattle.leaves.specs.answers.Scan.{leavesOf}
-use Rattle.cpumap.proofs.MapMeans.{leaf-in-map, in-map-inside}
+use Rattle.leaves.proofs.RuleCases.{leaf-inside}
 use Rattle.rows.specs.answers.Leaf.{rowOf}
 use Rattle.rows.specs.answers.Write.{rowsBelow, sourceOf}
 use Rattle.rows.specs.facts.Fits.{RowFits, Fits}
@@ -33,7 +34,7 @@ module _
     (sound : SoundCpus b)
     {m : ℕ}
     (the-map : Map b m)
-    (kept : (n p : ℕ) → MapRule b n p → ⊥)
+    (kept : SoundTopology b)
   where
     -- a record's number fits a word
     small : (i : ℕ) → i < nodeCount (b .nodes) → i % 2 ^ 32 ≡ i
@@ -45,7 +46,7 @@ module _
     row-fits leaf cpu l n =
         record {
           size = refl;
-          leaf-word = small leaf (in-map-inside (leaf-in-map l));
+          leaf-word = small leaf (leaf-inside l);
           cpu = rw cpu-word n;
           reg = rw cpu-word reg;
           socket = socket-word well sound l;

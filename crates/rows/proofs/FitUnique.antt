@@ -19,11 +19,12 @@ use Rattle.wellformed.specs.facts.Rules.{WellFormed}
 use Rattle.tables.proofs.DepthLaws.{child-unique}
 use Rattle.cpus.specs.facts.Rules.{SoundCpus, SoundPhandles}
 use Rattle.cpus.proofs.RegMeans.{reg-unique}
-use Rattle.cpumap.specs.facts.Map.{InMap, OfKind, Leaf}
-use Rattle.topology.specs.facts.Rules.{MapRule}
+use Rattle.cpumap.specs.facts.Map.{InMap, OfKind}
+use Rattle.topology.specs.facts.Rules.{SoundTopology}
+use Rattle.leaves.specs.facts.Leaf.{Leaf}
 use Rattle.cpumap.proofs.NameFacts.{kinds-apart}
 use Rattle.leaves.proofs.LeafMeans.{names-unique}
-use Rattle.cpumap.proofs.MapMeans.{leaf-in-map}
+use Rattle.leaves.proofs.RuleCases.{leaf-in-map}
 use Rattle.rows.specs.facts.Fits.{Mpidrs, SocketWord, CoreWord, ThreadWord, SlotWord, RowFits, Fits}
 use Rattle.rows.proofs.ShapeLaws.{socket-unique}
 use Rattle.rows.proofs.WordMeans.{cluster-word-only}
@@ -70,7 +71,7 @@ module _
     (well : WellFormed b)
     (sound : SoundCpus b)
     (handles : SoundPhandles b)
-    (kept : (n p : ℕ) → MapRule b n p → ⊥)
+    (kept : SoundTopology b)
   where
     -- the socket
     pub socket-word-unique : {leaf x y : ℕ} → InMap b leaf → SocketWord b leaf x → SocketWord b leaf y → x ≡ y

@@ -11,7 +11,7 @@ use Rattle.wellformed.specs.facts.Rules.{WellFormed}
 use Rattle.tables.proofs.DepthLaws.{ancestor-earlier, ancestor-cases, ancestor-chain}
 use Rattle.cpus.specs.facts.Rules.{SoundCpus}
 use Rattle.cpumap.specs.facts.Map.{Map, InMap, OfKind}
-use Rattle.topology.specs.facts.Rules.{MapRule, Allowed}
+use Rattle.topology.specs.facts.Rules.{TopologyRule, SoundTopology, Allowed}
 use Rattle.cpumap.proofs.NameFacts.{root-nameless, map-nameless}
 use Rattle.cpumap.proofs.MapMeans.{map-unique}
 use Rattle.topology.proofs.KindMeans.{parent-of, allowed-test}
@@ -31,13 +31,13 @@ under (Allowed.clusterCluster s) = inr (inr s)
 under (Allowed.clusterCore s) = s
 under (Allowed.coreThread s) = s
 
-module _ (b : Board) (well : WellFormed b) (m : ℕ) (the-map : Map b m) (sound : SoundCpus b) (kept : (n p : ℕ) → MapRule b n p → ⊥) where
+module _ (b : Board) (well : WellFormed b) (m : ℕ) (the-map : Map b m) (sound : SoundCpus b) (kept : SoundTopology b) where
   -- the parent of a thread is a core, of a core a cluster, of a socket the map, of a cluster the map, a socket or a cluster
   pub parent-kind : (i p : ℕ) (kind : Kind) → InMap b i → Child (b .nodes) p i → OfKind b kind i → Under b p kind
   parent-kind i p kind h c s =
       ⊎-elim
       under
-      (λ n. absurd (kept 20 i (MapRule.cpuMapKind i p kind h c s n)))
+      (λ n. absurd (kept 20 i (TopologyRule.cpuMapKind i p kind h c s n)))
       (decided (allowed-test b well m the-map p kind 0 (omega (arith, c .earlier, c .inside))))
 
   -- an ancestor with a kind is itself below the map
@@ -68,7 +68,8 @@ module _ (b : Board) (well : WellFormed b) (m : ℕ) (the-map : Map b m) (sound 
       ⊎-elim (λ q. omega arith) (λ v. omega (arith, ancestor-earlier v)) (ancestor-cases a c)
 
   -- a record has at most one socket above it
-  pub socket-unique : (i s t : ℕ) → InMap b i → Ancestor (b .nodes) s i → OfKind b Kind.socket s → Ancestor (b .nodes) t i → OfKind b Kind.socket t → s ≡ t
+  pub socket-unique :
+      (i s t : ℕ) → InMap b i → Ancestor (b .nodes) s i → OfKind b Kind.socket s → Ancestor (b .nodes) t i → OfKind b Kind.socket t → s ≡ t
   socket-unique i s t h a is-s c is-t =
       ⊎-elim
       (λ e. e)

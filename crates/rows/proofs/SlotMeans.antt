@@ -12,7 +12,7 @@ use Rattle.wellformed.specs.facts.Rules.{WellFormed}
 use Rattle.cpus.specs.facts.Rules.{SoundCpus}
 use Rattle.cpus.specs.answers.Check.{cpuList, mpidrAt, mpidrList}
 use Rattle.cpus.proofs.CpuGives.{mpidr-distinct}
-use Rattle.cpumap.specs.facts.Map.{Leaf, Names}
+use Rattle.leaves.specs.facts.Leaf.{Leaf, Names}
 use Rattle.leaves.specs.answers.Scan.{cpuOf, treeOf}
 use Rattle.rows.specs.answers.Leaf.{rowOf}
 use Rattle.rows.specs.answers.Write.{rowsBelow, sourceOf}

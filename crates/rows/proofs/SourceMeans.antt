@@ -19,9 +19,11 @@ use Rattle.cpus.specs.answers.Check.{cpuCount, cpuList, mpidrAt, mpidrList}
 use Rattle.cpus.proofs.CpuMeans.{cpu-listing, cpu-count}
 use Rattle.cpus.proofs.RegMeans.{reg-affine}
 use Rattle.cpus.proofs.CpuGives.{cpu-reg}
-use Rattle.cpumap.specs.facts.Map.{Map, Leaf, Names}
+use Rattle.cpumap.specs.facts.Map.{Map}
 use Rattle.cpumap.specs.answers.Find.{mapOf}
-use Rattle.topology.specs.facts.Rules.{MapRule}
+use Rattle.topology.specs.facts.Rules.{SoundTopology}
+use Rattle.leaves.specs.facts.Leaf.{Leaf, Names}
+use Rattle.leaves.specs.facts.Rules.{SoundLeaves}
 use Rattle.leaves.specs.answers.Scan.{cpuOf, treeOf, leavesOf}
 use Rattle.cpumap.proofs.MapMeans.{map-of, map-found}
 use Rattle.leaves.proofs.PhandleMeans.{cpuAt}
@@ -62,16 +64,17 @@ module _
     (handles : SoundPhandles b)
     {m : ℕ}
     (the-map : Map b m)
-    (kept : (n p : ℕ) → MapRule b n p → ⊥)
+    (kept : SoundTopology b)
+    (mapped : SoundLeaves b)
   where
     pub leaf-facts : LeafFacts b
     leaf-facts =
         record {
-          listing = leaf-listing sized well sound handles found kept;
-          index = leaf-cpu sized well sound handles found kept;
-          names = leaf-names sized well sound handles found kept;
-          apart = leaves-apart sized well sound handles found kept;
-          count = same-count sized well sound handles found kept;
+          listing = leaf-listing sized well sound handles found kept mapped;
+          index = leaf-cpu sized well sound handles found kept mapped;
+          names = leaf-names sized well sound handles found kept mapped;
+          apart = leaves-apart sized well sound handles found kept mapped;
+          count = same-count sized well sound handles found kept mapped;
         }
       where
         found : Map b (mapOf (b .nodes) (b .pool))

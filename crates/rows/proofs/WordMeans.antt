@@ -10,15 +10,17 @@ use Rattle.names.specs.answers.Name.{namedAs}
 use Rattle.tables.specs.facts.Board.{Board, nodeCount, nodeName, parentWord}
 use Rattle.wellformed.specs.facts.Rules.{WellFormed}
 use Rattle.cpus.specs.facts.Rules.{SoundCpus}
-use Rattle.cpumap.specs.facts.Map.{Map, OfKind, Leaf}
-use Rattle.topology.specs.facts.Rules.{MapRule}
+use Rattle.cpumap.specs.facts.Map.{Map, OfKind}
+use Rattle.topology.specs.facts.Rules.{SoundTopology}
+use Rattle.leaves.specs.facts.Leaf.{Leaf}
 use Rattle.cpumap.specs.answers.Path.{topologyName, clusterPath, socketNumber}
 use Rattle.cpumap.specs.answers.Number.{kindNumber}
 use Rattle.cpumap.proofs.NameFacts.{root-nameless, kinds-apart, topology-is}
 use Rattle.topology.proofs.KindMeans.{parent-of}
 use Rattle.cpumap.proofs.PathWords.{PathWord, cluster-above, above-cluster, path-word, path-word-only}
 use Rattle.cpumap.proofs.SocketMeans as sockets
-use Rattle.cpumap.proofs.MapMeans.{leaf-in-map, in-map-inside}
+use Rattle.cpumap.proofs.MapMeans.{in-map-inside}
+use Rattle.leaves.proofs.RuleCases.{leaf-inside}
 use Rattle.rows.specs.answers.Leaf.{coreOf, threadOf}
 use Rattle.rows.specs.facts.Fits.{SocketWord, ClusterWord, CoreWord, ThreadWord}
 use Rattle.rows.proofs.ShapeLaws.{parent-kind}
@@ -31,9 +33,6 @@ leaf-kind (Leaf.aCore i c none) = inl c
 leaf-not : (b : Board) (leaf : ℕ) (kind : Kind) → kindNumber (namedAs kind 0) < 3 → Leaf b leaf → OfKind b kind leaf → ⊥
 leaf-not b leaf kind lt l s =
     ⊎-elim (kinds-apart b leaf kind Kind.core (λ e. omega arith) s) (kinds-apart b leaf kind Kind.thread (λ e. omega arith) s) (leaf-kind l)
-
-leaf-inside : {b : Board} {leaf : ℕ} → Leaf b leaf → leaf < nodeCount (b .nodes)
-leaf-inside l = in-map-inside (leaf-in-map l)
 
 module _ {b : Board} (well : WellFormed b) (sound : SoundCpus b) where
   -- the socket
@@ -77,7 +76,7 @@ module _ {b : Board} (well : WellFormed b) (sound : SoundCpus b) where
   pub core-word :
       {leaf m : ℕ} →
       Map b m →
-      ((n p : ℕ) → MapRule b n p → ⊥) →
+      SoundTopology b →
       Leaf b leaf →
       CoreWord b leaf (coreOf (name leaf) (name (parentWord (b .nodes) leaf)))
   core-word {leaf} {m} the-map kept (Leaf.aThread i t) =

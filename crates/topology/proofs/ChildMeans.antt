@@ -25,7 +25,8 @@ module _ (nodes : List ℕ) where
       (λ j t. (t .1, child-test nodes p j .1 (t .0)))
       (λ j lt e. (child-test nodes p j .0 e, lt))
 
-  pub earlier-count : (p i : ℕ) (earlier : List ℕ) → Listing (λ j. Child nodes p j × (j < i)) earlier → countBelow (isChild nodes p) i ≡ length earlier
+  pub earlier-count :
+      (p i : ℕ) (earlier : List ℕ) → Listing (λ j. Child nodes p j × (j < i)) earlier → countBelow (isChild nodes p) i ≡ length earlier
   earlier-count p i earlier h =
       sym (list-length (isChild nodes p) i) ∙ rw (listing-unique (listBelow (isChild nodes p) i) earlier (earlier-children p i) h)
 

@@ -21,7 +21,8 @@ use Rattle.laws.proofs.PassLaws.{count-none}
 -- the records up to p are no children of p
 pub no-children : (nodes : List ℕ) (p : ℕ) → countBelow (isChild nodes p) (p + 1) ≡ 0
 unfolding isChild
-no-children nodes p = count-none (isChild nodes p) (p + 1) (λ k lt. go (ltb k (nodeCount nodes)) (eqb (parentWord nodes k) p) (ltb p k) (le-ltb p k (omega arith)))
+no-children nodes p =
+    count-none (isChild nodes p) (p + 1) (λ k lt. go (ltb k (nodeCount nodes)) (eqb (parentWord nodes k) p) (ltb p k) (le-ltb p k (omega arith)))
   where
     go : (a b c : Bool) → c ≡ false → cond a (cond b c false) false ≡ false
     go true true c h = h
@@ -49,21 +50,29 @@ pub named-fault :
     (nodes pool : List ℕ) (map i : ℕ) (name : TopologyName) {p : ℕ} →
     (kindNumber name ≡ 0 → ⊥) →
     p ≡ parentWord nodes i →
-    orNumber (kindFault nodes pool map p name) (orNumber (numberFault nodes p i name) (shapeFault nodes pool p i name)) ≡ mapRecordFault nodes pool map i name
+    orNumber (kindFault nodes pool map p name) (orNumber (numberFault nodes p i name) (shapeFault nodes pool p i name))
+    ≡ mapRecordFault nodes pool map i name
 unfolding mapRecordFault
 named-fault nodes pool map i name ne e =
     rw (ne-eqb (kindNumber name) 0 ne)
     (ap (λ (q : ℕ). orNumber (kindFault nodes pool map q name) (orNumber (numberFault nodes q i name) (shapeFault nodes pool q i name))) e)
 
 -- the shape of a record below the map with a given name
-module _ (nodes pool : List ℕ) (map i : ℕ) {name : TopologyName} {v : ℕ} (n : name ≡ topologyName nodes pool i) (e : v ≡ mapRecordFault nodes pool map i name) where
-  fault : v ≡ mapRecordFault nodes pool map i (topologyName nodes pool i)
-  fault = e ∙ ap (mapRecordFault nodes pool map i) n
+module _
+    (nodes pool : List ℕ)
+    (map i : ℕ)
+    {name : TopologyName}
+    {v : ℕ}
+    (n : name ≡ topologyName nodes pool i)
+    (e : v ≡ mapRecordFault nodes pool map i name)
+  where
+    fault : v ≡ mapRecordFault nodes pool map i (topologyName nodes pool i)
+    fault = e ∙ ap (mapRecordFault nodes pool map i) n
 
-  pub fault-told : (v ≡ 0 → ⊥) → shape v false ≡ mapRecordShape nodes pool map i
-  unfolding mapRecordShape
-  fault-told ne = rw (← fault, ne-eqb v 0 ne)
+    pub fault-told : (v ≡ 0 → ⊥) → shape v false ≡ mapRecordShape nodes pool map i
+    unfolding mapRecordShape
+    fault-told ne = rw (← fault, ne-eqb v 0 ne)
 
-  pub leaf-told : {b : Bool} → v ≡ 0 → b ≡ isLeafName nodes i name → shape 0 b ≡ mapRecordShape nodes pool map i
-  unfolding mapRecordShape
-  leaf-told z l = rw (eq-eqb _ _ (sym fault ∙ z)) (ap (shape 0) (l ∙ ap (isLeafName nodes i) n))
+    pub leaf-told : {b : Bool} → v ≡ 0 → b ≡ isLeafName nodes i name → shape 0 b ≡ mapRecordShape nodes pool map i
+    unfolding mapRecordShape
+    leaf-told z l = rw (eq-eqb _ _ (sym fault ∙ z)) (ap (shape 0) (l ∙ ap (isLeafName nodes i) n))

@@ -27,10 +27,11 @@ use Rattle.tables.proofs.TreeLaws.{the-parent}
 use Rattle.wellformed.proofs.WellFormedLaws.{wf-depth}
 use Rattle.cpumap.specs.facts.Map.{Map, InMap, OfKind, FirstChild}
 use Rattle.cpumap.specs.answers.Path.{topologyName}
-use Rattle.topology.specs.facts.Rules.{MapRule, Allowed}
+use Rattle.topology.specs.facts.Rules.{TopologyRule, Allowed}
 use Rattle.cpumap.specs.answers.Number.{kindNumber}
 use Rattle.topology.specs.answers.Check.{allowedUnder, allowedInMap, kindFault, numberFault, shapeFault, mapRecordFault}
-use Rattle.cpumap.proofs.NameFacts.{Says, topology-says, topology-is, topology-cases, is-unique, kinds-apart, kind-number-same, kind-number-of, kind-number-some, map-nameless}
+use Rattle.cpumap.proofs.NameFacts.{Says, topology-says, topology-is, topology-cases, is-unique, kinds-apart}
+use Rattle.cpumap.proofs.NameFacts.{kind-number-same, kind-number-of, kind-number-some, map-nameless}
 use Rattle.cpumap.proofs.MapMeans.{map-unique, in-map-below}
 use Rattle.cpumap.proofs.WithinMeans.{child-has, within-above, above-within}
 
@@ -105,7 +106,8 @@ module _ (b : Board) (well : WellFormed b) (m : ℕ) (map : Map b m) where
   abbrev isAllowed : ℕ → TopologyName → Bool
   isAllowed p x = cond (eqb p m) (allowedInMap x) (allowedUnder (name p) x)
 
-  allowed-under : (p : ℕ) (kind : Kind) (n : ℕ) → p < nodeCount (b .nodes) → (Map b p → ⊥) → Allowed b p kind → allowedUnder (name p) (namedAs kind n) ≡ true
+  allowed-under :
+      (p : ℕ) (kind : Kind) (n : ℕ) → p < nodeCount (b .nodes) → (Map b p → ⊥) → Allowed b p kind → allowedUnder (name p) (namedAs kind n) ≡ true
   allowed-under p kind n lt none (Allowed.mapSocket s) = absurd (none s)
   allowed-under p kind n lt none (Allowed.mapCluster s) = absurd (none s)
   allowed-under p kind n lt none (Allowed.socketCluster is) = rw (topology-is b well p Kind.socket (is .0) lt .1 (is .1))
@@ -116,7 +118,10 @@ module _ (b : Board) (well : WellFormed b) (m : ℕ) (map : Map b m) where
   pub allowed-test : (p : ℕ) (kind : Kind) (n : ℕ) → p < nodeCount (b .nodes) → Decides (isAllowed p (namedAs kind n)) (Allowed b p kind)
   allowed-test p kind n lt = go (decide-cases (eq-decides p m))
     where
-      go : {t : Bool} → Decided (p ≡ m) t → Decides (cond t (allowedInMap (namedAs kind n)) (allowedUnder (name p) (namedAs kind n))) (Allowed b p kind)
+      go :
+          {t : Bool} →
+          Decided (p ≡ m) t →
+          Decides (cond t (allowedInMap (namedAs kind n)) (allowedUnder (name p) (namedAs kind n))) (Allowed b p kind)
       go (Decided.holds e) = in-map-allowed b p (rw e map) kind n
       go (Decided.fails ne) = (
         under-allowed b p (topology-says b well p lt) kind n,
@@ -128,7 +133,8 @@ module _ (b : Board) (well : WellFormed b) (m : ℕ) (map : Map b m) where
       (i : ℕ) (kind : Kind) (n : ℕ) →
       let p = parentWord (b .nodes) i in
       mapRecordFault (b .nodes) (b .pool) m i (namedAs kind n)
-      ≡ orNumber (kindFault (b .nodes) (b .pool) m p (namedAs kind n)) (orNumber (numberFault (b .nodes) p i (namedAs kind n)) (shapeFault (b .nodes) (b .pool) p i (namedAs kind n)))
+      ≡ orNumber (kindFault (b .nodes) (b .pool) m p (namedAs kind n))
+      (orNumber (numberFault (b .nodes) p i (namedAs kind n)) (shapeFault (b .nodes) (b .pool) p i (namedAs kind n)))
   unfolding mapRecordFault
   fault-named i kind n = rw (ne-eqb (kindNumber (namedAs kind n)) 0 (kind-number-some kind n))
 
@@ -140,7 +146,11 @@ module _ (b : Board) (well : WellFormed b) (m : ℕ) (map : Map b m) where
   unfolding kindFault
   kind-sound p kind n lt = go (decide-cases (allowed-test p kind n lt))
     where
-      go : {t : Bool} → Decided (Allowed b p kind) t → _≡_ {A = ℕ} (cond t (cond (eqb (kindNumber (namedAs kind n)) (kindNumber (name (p + 1)))) 0 20) 20) 0 → Allowed b p kind
+      go :
+          {t : Bool} →
+          Decided (Allowed b p kind) t →
+          _≡_ {A = ℕ} (cond t (cond (eqb (kindNumber (namedAs kind n)) (kindNumber (name (p + 1)))) 0 20) 20) 0 →
+          Allowed b p kind
       go (Decided.holds a) z = a
       go (Decided.fails _) z = absurd (omega arith)
 
@@ -195,32 +205,37 @@ module _ (b : Board) (well : WellFormed b) (m : ℕ) (map : Map b m) where
       first-kind : (j : Kind) (k : ℕ) → Named (nodeName b (suc over)) j k → kindNumber (name (over + 1)) ≡ kindNumber (namedAs j k)
       first-kind j k q = rw (add-one over, topology-is b well (suc over) j k (next .inside) .1 q)
 
-      mixed-broken : (SameKind → ⊥) → MapRule b 20 i
+      mixed-broken : (SameKind → ⊥) → TopologyRule b 20 i
       mixed-broken ne = ⊎-elim (λ e. absurd (ne (sym (first-kind kind n (rw e named))))) other first-placed
         where
-          other : (j : Kind) × (k : ℕ) × Named (nodeName b (suc over)) j k × Allowed b over j → MapRule b 20 i
+          other : (j : Kind) × (k : ℕ) × Named (nodeName b (suc over)) j k × Allowed b over j → TopologyRule b 20 i
           other t =
               ⊎-elim (λ e. absurd (apart e))
-              (λ mixing. MapRule.cpuMapKindMixed i over (suc over) kind (t .0) in-map mixing child first (n, named) (t .1, t .2) apart)
+              (λ mixing. TopologyRule.cpuMapKindMixed i over (suc over) kind (t .0) in-map mixing child first (n, named) (t .1, t .2) apart)
               (allowed-mix b over allowed (t .3))
             where
               apart : kind ≡ t .0 → ⊥
               apart e = ne (kind-number-of kind n (t .1) ∙ ap (λ (j : Kind). kindNumber (namedAs j (t .1))) e ∙ sym (first-kind (t .0) (t .1) (t .2)))
 
-      mixed-sound : SameKind → MapRule b 20 i → ⊥
-      mixed-sound same (MapRule.cpuMapKind _ p k _ c is none) = none (rw (child-unique child c, is-unique b i kind k (n, named) is) at allowed)
-      mixed-sound same (MapRule.cpuMapKindMixed _ p f k j _ _ c fc is fis ne) =
+      mixed-sound : SameKind → TopologyRule b 20 i → ⊥
+      mixed-sound same (TopologyRule.cpuMapKind _ p k _ c is none) = none (rw (child-unique child c, is-unique b i kind k (n, named) is) at allowed)
+      mixed-sound same (TopologyRule.cpuMapKindMixed _ p f k j _ _ c fc is fis ne) =
           let le = fc .lowest (suc over) (rw (child-unique c child) next) in
           let lt = fc .child .earlier in
           let e = child-unique c child in
           let place : f ≡ suc over = omega arith in
           ne (is-unique b i k kind is (n, named) ∙ kind-number-same kind j n (fis .0) (same ∙ first-kind j (fis .0) (rw place at (fis .1))))
 
-    pub kind-tested : (kind : Kind) (n : ℕ) → Named (nodeName b i) kind n → Tested 20 (MapRule b 20 i) (kindFault (b .nodes) (b .pool) m over (namedAs kind n))
+    pub kind-tested :
+        (kind : Kind) (n : ℕ) → Named (nodeName b i) kind n → Tested 20 (TopologyRule b 20 i) (kindFault (b .nodes) (b .pool) m over (namedAs kind n))
     unfolding kindFault
     kind-tested kind n named = go (decide-cases (allowed-test over kind n over-inside))
       where
-        go : {t : Bool} → Decided (Allowed b over kind) t → Tested 20 (MapRule b 20 i) (cond t (cond (eqb (kindNumber (namedAs kind n)) (kindNumber (name (over + 1)))) 0 20) 20)
+        go :
+            {t : Bool} →
+            Decided (Allowed b over kind) t →
+            Tested 20 (TopologyRule b 20 i) (cond t (cond (eqb (kindNumber (namedAs kind n)) (kindNumber (name (over + 1)))) 0 20) 20)
         go (Decided.holds allowed) =
-            tested-unless (mixed-sound kind n named allowed) (mixed-broken kind n named allowed) (eq-decides (kindNumber (namedAs kind n)) (kindNumber (name (over + 1))))
-        go (Decided.fails n-a) = Tested.broken (MapRule.cpuMapKind i over kind in-map child (n, named) n-a)
+            tested-unless (mixed-sound kind n named allowed) (mixed-broken kind n named allowed)
+            (eq-decides (kindNumber (namedAs kind n)) (kindNumber (name (over + 1))))
+        go (Decided.fails n-a) = Tested.broken (TopologyRule.cpuMapKind i over kind in-map child (n, named) n-a)

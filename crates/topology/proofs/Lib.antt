@@ -1,8 +1,8 @@
 -- What the computed definitions mean, as facts about a board.
 pub mod ChildMeans
 pub mod RuleCases
-pub mod MapTells
 pub mod KindMeans
 pub mod RecordMeans
 pub mod PlaceMeans
+pub mod ShapeMeans
 pub mod CodeLaws

@@ -1,4 +1,5 @@
--- Rules 19 to 23 at a record below the map: the smallest that is broken is told. Assumes well-formed tables, no topology name of record 0, and sound earlier records.
+-- Rules 19 to 23 at a record below the map: the smallest that is broken is told.
+-- Assumes well-formed tables, no topology name of record 0, and sound earlier records.
 use mathlib.Core.Path.{_≡_, sym, _∙_}
 use mathlib.Core.Logic.{⊎-elim, _↔_}
 use mathlib.Core.List.{List}
@@ -26,7 +27,7 @@ use Rattle.wellformed.proofs.WellFormedLaws.{wf-depth}
 use Rattle.tables.specs.answers.Tree.{isChild}
 use Rattle.cpumap.specs.facts.Map.{Map, InMap, OfKind, Childless, ClusterAbove}
 use Rattle.cpumap.specs.answers.Path.{topologyName, clusterPath}
-use Rattle.topology.specs.facts.Rules.{MapRule}
+use Rattle.topology.specs.facts.Rules.{TopologyRule}
 use Rattle.cpumap.specs.answers.Number.{kindNumber, topologyNumber}
 use Rattle.topology.specs.answers.Check.{groupFault, depthFault, numberFault, shapeFault, mapRecordFault}
 use Rattle.topology.proofs.ChildMeans.{earlier-children, earlier-count, has-child-test}
@@ -37,10 +38,11 @@ use Rattle.cpumap.proofs.PathMeans.{clusterList, clusters-listing, depth-below}
 use Rattle.topology.proofs.KindMeans.{parent-of, fault-named, kind-tested}
 
 -- rule 23 where a record that must have children has none
-pub group-tested : (b : Board) (well : WellFormed b) (i : ℕ) → (Childless b i → MapRule b 23 i) → Tested 23 (MapRule b 23 i) (groupFault (b .nodes) i)
+pub group-tested :
+    (b : Board) (well : WellFormed b) (i : ℕ) → (Childless b i → TopologyRule b 23 i) → Tested 23 (TopologyRule b 23 i) (groupFault (b .nodes) i)
 group-tested b well i breaks =
     tested-unless
-    (λ t (r : MapRule b 23 i). childless r .0 (t .0) (t .1))
+    (λ t (r : TopologyRule b 23 i). childless r .0 (t .0) (t .1))
     (λ none. breaks (λ j c. none (j, c)))
     (has-child-test (b .nodes) (wf-depth well) i)
 
@@ -60,7 +62,7 @@ module _
     over = parentWord (b .nodes) i
 
     abbrev Rule : ℕ → Type 0
-    Rule n = MapRule b n i
+    Rule n = TopologyRule b n i
 
     child : Child (b .nodes) over i
     child = parent-of (in-map-below b m map i in-map)
@@ -74,13 +76,13 @@ module _
         count = countBelow (isChild (b .nodes) over) i
 
         keeps : topologyNumber (namedAs kind n) ≡ count → Rule 21 → ⊥
-        keeps e (MapRule.cpuMapOrder _ p k j earlier _ c name l ne) =
+        keeps e (TopologyRule.cpuMapOrder _ p k j earlier _ c name l ne) =
             let size : count ≡ length earlier = earlier-count (b .nodes) over i earlier (rw (child-unique c child) at l) in
             ne (named-unique name named .1 ∙ sym (number-answered kind n) ∙ e ∙ size)
 
         breaks : (topologyNumber (namedAs kind n) ≡ count → ⊥) → Rule 21
         breaks ne =
-            MapRule.cpuMapOrder i over n kind (listBelow (isChild (b .nodes) over) i) in-map child named (earlier-children (b .nodes) over i)
+            TopologyRule.cpuMapOrder i over n kind (listBelow (isChild (b .nodes) over) i) in-map child named (earlier-children (b .nodes) over i)
             (λ e. ne (number-answered kind n ∙ e ∙ list-length (isChild (b .nodes) over) i))
 
     -- rule 22, of a cluster alone
@@ -101,10 +103,10 @@ module _
     depth-tested is = tested-unless deep breaks (lt-decides depth 4)
       where
         deep : depth < 4 → Rule 22 → ⊥
-        deep lt (MapRule.cpuMapDepth _ list _ _ l many) = omega (arith, few .0 lt, rw (listing-unique list above l listing) at many)
+        deep lt (TopologyRule.cpuMapDepth _ list _ _ l many) = omega (arith, few .0 lt, rw (listing-unique list above l listing) at many)
 
         breaks : (depth < 4 → ⊥) → Rule 22
-        breaks n = MapRule.cpuMapDepth i above in-map is listing (⊎-elim (λ lt. lt) (λ le. absurd (n (few .1 le))) (lt-or-le 3 (length above)))
+        breaks n = TopologyRule.cpuMapDepth i above in-map is listing (⊎-elim (λ lt. lt) (λ le. absurd (n (few .1 le))) (lt-or-le 3 (length above)))
 
     not-deep : (OfKind b Kind.cluster i → ⊥) → Tested 22 (Rule 22) 0
     not-deep none = Tested.sound (λ r. none (deep-cluster r))
@@ -116,19 +118,21 @@ module _
         is-map s = map-not-below b i s in-map
 
     has-name : (kind : Kind) → OfKind b kind i → Rule 19 → ⊥
-    has-name kind is (MapRule.cpuMapName _ _ none) = none kind is
+    has-name kind is (TopologyRule.cpuMapName _ _ none) = none kind is
 
     -- rules 22 and 23
     pair : {v w : ℕ} → Tested 22 (Rule 22) v → Tested 23 (Rule 23) w → Least Rule 22 23 (orNumber v w)
-    pair {v} {w} s t = least-then Rule 22 22 23 v w (omega arith) (omega arith) (least-one Rule 22 (omega arith) s) (least-one Rule 23 (omega arith) t)
+    pair {v} {w} s t =
+        least-then Rule 22 22 23 v w (omega arith) (omega arith) (least-one Rule 22 (omega arith) s) (least-one Rule 23 (omega arith) t)
 
     apart : (k j : Kind) (n : ℕ) → Named (nodeName b i) k n → (kindNumber (namedAs j 0) ≡ kindNumber (namedAs k 0) → ⊥) → OfKind b j i → ⊥
     apart k j n q ne t = kinds-apart b i j k ne t (n, q)
 
     shape-least : (kind : Kind) (n : ℕ) → Named (nodeName b i) kind n → Least Rule 22 23 (shapeFault (b .nodes) (b .pool) over i (namedAs kind n))
     shape-least Kind.socket n q =
-        pair (not-deep (apart Kind.socket Kind.cluster n q (λ z. omega arith))) (group-tested b well i (MapRule.cpuMapEmptySocket i in-map (n, q)))
-    shape-least Kind.cluster n q = pair (depth-tested (n, q)) (group-tested b well i (MapRule.cpuMapEmptyCluster i in-map (n, q)))
+        pair (not-deep (apart Kind.socket Kind.cluster n q (λ z. omega arith)))
+        (group-tested b well i (TopologyRule.cpuMapEmptySocket i in-map (n, q)))
+    shape-least Kind.cluster n q = pair (depth-tested (n, q)) (group-tested b well i (TopologyRule.cpuMapEmptyCluster i in-map (n, q)))
     shape-least Kind.core n q =
         let no-cluster = apart Kind.core Kind.cluster n q (λ z. omega arith) in
         pair (not-deep no-cluster) (not-empty (apart Kind.core Kind.socket n q (λ z. omega arith)) no-cluster)
@@ -145,7 +149,7 @@ module _
       record-told = ⊎-elim named unnamed (topology-cases b well i (child .inside))
         where
           other : ((kind : Kind) → OfKind b kind i → ⊥) → Least Rule 19 23 (mapRecordFault (b .nodes) (b .pool) m i Other)
-          other none = unfold mapRecordFault in least-low Rule 19 23 (omega arith) (omega arith) (MapRule.cpuMapName i in-map none)
+          other none = unfold mapRecordFault in least-low Rule 19 23 (omega arith) (omega arith) (TopologyRule.cpuMapName i in-map none)
 
           unnamed : (name i ≡ Other) × ((kind : Kind) → OfKind b kind i → ⊥) → Least Rule 19 23 fault
           unnamed t = rw (t .0) (other (t .1))
@@ -154,8 +158,10 @@ module _
           faults kind n q =
               rw (fault-named b well m map i kind n)
               (least-then Rule 19 19 23 0 _ (omega arith) (omega arith) (least-one Rule 19 (omega arith) (Tested.sound (has-name kind (n, q))))
-              (least-then Rule 20 20 23 _ _ (omega arith) (omega arith) (least-one Rule 20 (omega arith) (kind-tested b well m map i in-map lower kind n q))
-              (least-then Rule 21 21 23 _ _ (omega arith) (omega arith) (least-one Rule 21 (omega arith) (number-tested kind n q)) (shape-least kind n q))))
+              (least-then Rule 20 20 23 _ _ (omega arith) (omega arith)
+              (least-one Rule 20 (omega arith) (kind-tested b well m map i in-map lower kind n q))
+              (least-then Rule 21 21 23 _ _ (omega arith) (omega arith)
+              (least-one Rule 21 (omega arith) (number-tested kind n q)) (shape-least kind n q))))
 
           named : (kind : Kind) × (n : ℕ) × (name i ≡ namedAs kind n) × Named (nodeName b i) kind n → Least Rule 19 23 fault
           named t = rw (t .2) (faults (t .0) (t .1) (t .3))

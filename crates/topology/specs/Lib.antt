@@ -1,3 +1,3 @@
--- What the contracts of `topology` cite, and rules 15, 16 and 18 to 26 as facts.
+-- What the contracts of `topology` cite, and rules 18 to 23 as facts.
 pub mod facts
 pub mod answers

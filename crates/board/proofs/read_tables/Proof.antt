@@ -55,7 +55,12 @@ module _ (c : tie.Else1) where
   clear : surveyFault b .number ≡ 0
   clear = none (sized call) (rows call) is (c .if1 .left)
 
-  lists : Lists b (replicate 256 0) (replicate 256 0) (replicate 256 0) (replicate 256 0) (call .survey .last .1 .1 .1 .1 .0) (call .survey .last .1 .1 .1 .1 .1 .0) (call .survey .last .1 .1 .1 .1 .1 .1 .0) (call .survey .last .1 .1 .1 .1 .1 .1 .1 .0)
+  lists :
+      Lists b (replicate 256 0) (replicate 256 0) (replicate 256 0) (replicate 256 0)
+      (call .survey .last .1 .1 .1 .1 .0)
+      (call .survey .last .1 .1 .1 .1 .1 .0)
+      (call .survey .last .1 .1 .1 .1 .1 .1 .0)
+      (call .survey .last .1 .1 .1 .1 .1 .1 .1 .0)
   lists = call .survey .ensures .1 clear
 
   cpus-are : call .survey .result .cpus ≡ cpuCount b
@@ -120,16 +125,24 @@ slice-aggregate-write-rows : tie.Need-slice-aggregate-write-rows
 slice-aggregate-write-rows c = let e = c .before .before .before .before .before .before in front-size _ _ (lists e .cpus-laid) (cpu-size e) (few e)
 
 array-share-prefix-leaves : tie.Need-array-share-prefix-leaves
-array-share-prefix-leaves c = let e = c .before .before .before .before .before .before in front-fits _ _ (lists e .leaves-laid) (leaf-size e) (few-leaves e)
+array-share-prefix-leaves c =
+    let e = c .before .before .before .before .before .before in
+    front-fits _ _ (lists e .leaves-laid) (leaf-size e) (few-leaves e)
 
 slice-aggregate-write-rows-2 : tie.Need-slice-aggregate-write-rows-2
-slice-aggregate-write-rows-2 c = let e = c .before .before .before .before .before .before .before in front-size _ _ (lists e .leaves-laid) (leaf-size e) (few-leaves e)
+slice-aggregate-write-rows-2 c =
+    let e = c .before .before .before .before .before .before .before in
+    front-size _ _ (lists e .leaves-laid) (leaf-size e) (few-leaves e)
 
 array-share-prefix-named : tie.Need-array-share-prefix-named
-array-share-prefix-named c = let e = c .before .before .before .before .before .before .before in front-fits _ _ (lists e .named-laid) (named-size e) (few-named e)
+array-share-prefix-named c =
+    let e = c .before .before .before .before .before .before .before in
+    front-fits _ _ (lists e .named-laid) (named-size e) (few-named e)
 
 slice-aggregate-write-rows-3 : tie.Need-slice-aggregate-write-rows-3
-slice-aggregate-write-rows-3 c = let e = c .before .before .before .before .before .before .before .before in front-size _ _ (lists e .named-laid) (named-size e) (few-named e)
+slice-aggregate-write-rows-3 c =
+    let e = c .before .before .before .before .before .before .before .before in
+    front-size _ _ (lists e .named-laid) (named-size e) (few-named e)
 
 write-rows-requires : tie.Need-write-rows-requires
 write-rows-requires c κs = search needs

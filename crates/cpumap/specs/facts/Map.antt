@@ -1,14 +1,10 @@
--- The map and its records (01: map, below, outside, leaf, what a leaf names).
+-- The map and its records (01: map, below, outside), and their kinds.
 use mathlib.Core.Path.{_≡_}
-use mathlib.Core.List.{List}
 use Prim.Native.Nat.{ℕ, _≤_}
-use lib.ListN.{length}
 use Rattle.names.specs.facts.Kind.{Kind, Named}
 use Rattle.tables.specs.facts.Tree.{Child, Ancestor}
-use Rattle.tables.specs.facts.Binding.{cpuKey, phandleKey, mapWord}
+use Rattle.tables.specs.facts.Binding.{mapWord}
 use Rattle.tables.specs.facts.Board.{Board, nodeName}
-use Rattle.tables.specs.facts.Property.{HasValue}
-use Rattle.cpus.specs.facts.Node.{Cpu}
 
 -- the map: the lowest child of record 0 named `cpu-map`
 pub record Map (b : Board) (m : ℕ) : Type 0 where
@@ -35,19 +31,6 @@ OfKind b kind i = (n : ℕ) × Named (nodeName b i) kind n
 
 abbrev pub Childless : Board → ℕ → Type 0
 Childless b i = (j : ℕ) → Child (b .nodes) i j → ⊥
-
--- a leaf: a thread, or a core without children
-pub data Leaf (b : Board) (i : ℕ) : Type 0 where
-  aThread : InMap b i → OfKind b Kind.thread i → Leaf b i
-  aCore : InMap b i → OfKind b Kind.core i → Childless b i → Leaf b i
-
--- leaf i names cpu record c: the four bytes of its `cpu` are those of c's `phandle`
-pub record Names (b : Board) (i c : ℕ) : Type 0 where
-  pub value : List ℕ
-  pub four : length value ≡ 4
-  pub cpu : HasValue b i cpuKey value
-  pub is-cpu : Cpu b c
-  pub phandle : HasValue b c phandleKey value
 
 -- f is the first child of p
 pub record FirstChild (b : Board) (p f : ℕ) : Type 0 where

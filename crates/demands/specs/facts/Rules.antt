@@ -10,14 +10,18 @@ use Rattle.wellformed.specs.facts.Rules.{TableRule}
 use Rattle.wellformed.specs.facts.Order.{stages, stage}
 use Rattle.cpus.specs.facts.Node.{Cpu}
 use Rattle.cpus.specs.facts.Rules.{CpuRule, PhandleRule}
-use Rattle.topology.specs.facts.Rules.{MapRule}
+use Rattle.cpumap.specs.facts.Rules.{MapRule}
+use Rattle.topology.specs.facts.Rules.{TopologyRule}
+use Rattle.leaves.specs.facts.Rules.{LeafRule}
 
 -- a rule is broken at a place, for a board and a row buffer of so many words
 pub data Breaks (b : Board) (room : ℕ) : ℕ → ℕ → Type 0 where
   tables : {n p : ℕ} → TableRule b n p → Breaks b room n p
   cpus : {n p : ℕ} → CpuRule b n p → Breaks b room n p
+  map : {n p : ℕ} → MapRule b n p → Breaks b room n p
   phandles : {n p : ℕ} → PhandleRule b n p → Breaks b room n p
-  topology : {n p : ℕ} → MapRule b n p → Breaks b room n p
+  topology : {n p : ℕ} → TopologyRule b n p → Breaks b room n p
+  leaves : {n p : ℕ} → LeafRule b n p → Breaks b room n p
   rowSpace : (cpus : List ℕ) → Listing (Cpu b) cpus → room < rowSize * length cpus → Breaks b room 27 0
 
 -- the broken rule that 01's order tells; its number stands in one of the stages
@@ -25,10 +29,12 @@ pub record Told (b : Board) (room n p : ℕ) : Type 0 where
   pub first : First stage (Breaks b room) n p
   pub staged : stage n < length stages
 
--- a map rule is broken: 15, 16, 18 to 26 of the map, or 17 of the phandles that its leaves name
+-- a map rule is broken, one of 15 to 26: of the map, of the phandles that its leaves name, of its topology, or of its leaves
 pub data MapBroken (b : Board) : Type 0 where
   map : {n p : ℕ} → MapRule b n p → MapBroken b
   phandle : {n p : ℕ} → PhandleRule b n p → MapBroken b
+  topology : {n p : ℕ} → TopologyRule b n p → MapBroken b
+  leaf : {n p : ℕ} → LeafRule b n p → MapBroken b
 
 -- room for twelve words for each cpu record
 abbrev pub Room : Board → ℕ → Type 0

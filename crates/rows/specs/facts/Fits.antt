@@ -12,7 +12,8 @@ use Rattle.names.specs.facts.Kind.{Kind, Named}
 use Rattle.tables.specs.facts.Board.{Board, nodeName}
 use Rattle.tables.specs.facts.Tree.{Child, Ancestor}
 use Rattle.cpus.specs.facts.Node.{Cpu, Reg, mpidr}
-use Rattle.cpumap.specs.facts.Map.{OfKind, Leaf, Names, ClusterAbove}
+use Rattle.cpumap.specs.facts.Map.{OfKind, ClusterAbove}
+use Rattle.leaves.specs.facts.Leaf.{Leaf, Names}
 
 -- the MPIDRs of all cpu records, in record order
 pub record Mpidrs (b : Board) (list : List ℕ) : Type 0 where

@@ -1,4 +1,4 @@
--- Rules 15, 16 and 18 to 26 as facts: each constructor is a way to break a rule of that number at that place.
+-- Rules 18 to 23 as facts: each constructor is a way to break a rule of that number at that place.
 use mathlib.Core.Path.{_≡_}
 use mathlib.Core.Logic.{_⊎_}
 use mathlib.Core.List.{List}
@@ -9,9 +9,7 @@ use Rattle.laws.specs.facts.Listing.{Listing}
 use Rattle.names.specs.facts.Kind.{Kind, Named}
 use Rattle.tables.specs.facts.Board.{Board, nodeCount, nodeName}
 use Rattle.tables.specs.facts.Tree.{Child}
-use Rattle.tables.specs.facts.Binding.{mapWord}
-use Rattle.cpus.specs.facts.Node.{Cpu}
-use Rattle.cpumap.specs.facts.Map.{Map, InMap, Outside, OfKind, Childless, Leaf, Names, FirstChild, ClusterAbove}
+use Rattle.cpumap.specs.facts.Map.{Map, InMap, Outside, OfKind, Childless, FirstChild, ClusterAbove}
 
 -- the kinds allowed under a record (000, sections 2 and 3)
 pub data Allowed (b : Board) (p : ℕ) : Kind → Type 0 where
@@ -22,12 +20,10 @@ pub data Allowed (b : Board) (p : ℕ) : Kind → Type 0 where
   clusterCore : OfKind b Kind.cluster p → Allowed b p Kind.core
   coreThread : OfKind b Kind.core p → Allowed b p Kind.thread
 
-pub data MapRule (b : Board) : ℕ → ℕ → Type 0 where
-  cpuMapMissing : ((m : ℕ) → Map b m → ⊥) → MapRule b 15 0
-  cpuMapDuplicate : (m i : ℕ) → Map b m → i < nodeCount (b .nodes) → nodeName b i ≡ mapWord → (i ≡ m → ⊥) → MapRule b 16 i
-  topologyOutsideMap : (i : ℕ) (kind : Kind) → 0 < i → i < nodeCount (b .nodes) → Outside b i → OfKind b kind i → MapRule b 18 i
-  cpuMapName : (i : ℕ) → InMap b i → ((kind : Kind) → OfKind b kind i → ⊥) → MapRule b 19 i
-  cpuMapKind : (i p : ℕ) (kind : Kind) → InMap b i → Child (b .nodes) p i → OfKind b kind i → (Allowed b p kind → ⊥) → MapRule b 20 i
+pub data TopologyRule (b : Board) : ℕ → ℕ → Type 0 where
+  topologyOutsideMap : (i : ℕ) (kind : Kind) → 0 < i → i < nodeCount (b .nodes) → Outside b i → OfKind b kind i → TopologyRule b 18 i
+  cpuMapName : (i : ℕ) → InMap b i → ((kind : Kind) → OfKind b kind i → ⊥) → TopologyRule b 19 i
+  cpuMapKind : (i p : ℕ) (kind : Kind) → InMap b i → Child (b .nodes) p i → OfKind b kind i → (Allowed b p kind → ⊥) → TopologyRule b 20 i
   cpuMapKindMixed :
       (i p f : ℕ) (kind first : Kind) →
       InMap b i →
@@ -37,7 +33,7 @@ pub data MapRule (b : Board) : ℕ → ℕ → Type 0 where
       OfKind b kind i →
       OfKind b first f →
       (kind ≡ first → ⊥) →
-      MapRule b 20 i
+      TopologyRule b 20 i
   cpuMapOrder :
       (i p n : ℕ) (kind : Kind) (earlier : List ℕ) →
       InMap b i →
@@ -45,17 +41,18 @@ pub data MapRule (b : Board) : ℕ → ℕ → Type 0 where
       Named (nodeName b i) kind n →
       Listing (λ j. Child (b .nodes) p j × (j < i)) earlier →
       (n ≡ length earlier → ⊥) →
-      MapRule b 21 i
+      TopologyRule b 21 i
   cpuMapDepth :
       (i : ℕ) (above : List ℕ) →
       InMap b i →
       OfKind b Kind.cluster i →
       Listing (ClusterAbove b i) above →
       maxClustersAbove < length above →
-      MapRule b 22 i
-  cpuMapEmpty : (m : ℕ) → Map b m → Childless b m → MapRule b 23 m
-  cpuMapEmptySocket : (i : ℕ) → InMap b i → OfKind b Kind.socket i → Childless b i → MapRule b 23 i
-  cpuMapEmptyCluster : (i : ℕ) → InMap b i → OfKind b Kind.cluster i → Childless b i → MapRule b 23 i
-  cpuMapPhandle : (i : ℕ) → Leaf b i → ((c : ℕ) → Names b i c → ⊥) → MapRule b 24 i
-  cpuMapCpuRepeated : (i j c : ℕ) → Leaf b i → Leaf b j → j < i → Names b i c → Names b j c → MapRule b 25 i
-  cpuUnmapped : (c : ℕ) → Cpu b c → ((i : ℕ) → Leaf b i → Names b i c → ⊥) → MapRule b 26 c
+      TopologyRule b 22 i
+  cpuMapEmpty : (m : ℕ) → Map b m → Childless b m → TopologyRule b 23 m
+  cpuMapEmptySocket : (i : ℕ) → InMap b i → OfKind b Kind.socket i → Childless b i → TopologyRule b 23 i
+  cpuMapEmptyCluster : (i : ℕ) → InMap b i → OfKind b Kind.cluster i → Childless b i → TopologyRule b 23 i
+
+-- a sound topology: none of rules 18 to 23 is broken
+abbrev pub SoundTopology : Board → Type 0
+SoundTopology b = (n p : ℕ) → TopologyRule b n p → ⊥

@@ -30,7 +30,8 @@ use Rattle.leaves.proofs.ScanLaws.{leaves-listed, named-listed}
 use Rattle.demands.specs.answers.Survey.{surveyFault}
 use Rattle.board.proofs.FrontLaws.{front-fits, front-size, front-is}
 use Rattle.board.proofs.ReadLaws.{map-number, map-place, map-root}
-use Rattle.board.proofs.SurveyLaws.{counted-all, listed-all, mapStage, fromPhandles, fromMap, fromCpus, fromCount, fromRoot, survey-stages, tells, tells-first, clears, numbers-stage, numbers-found, tree-is}
+use Rattle.board.proofs.SurveyLaws.{counted-all, listed-all, mapStage, fromPhandles, fromMap, fromCpus, fromCount, fromRoot}
+use Rattle.board.proofs.SurveyLaws.{survey-stages, tells, tells-first, clears, numbers-stage, numbers-found, tree-is}
 use borrow.Author.Needs.{needs}
 use Rattle.board.proofs.survey.survey.Statement.{statement}
 use Rattle.board.proofs.survey.survey.Tie as tie
@@ -198,13 +199,15 @@ module _ (c : tie.After-read-numbers2) where
 
   phandles-laid : phandlesFault (b7 c) .number ≡ 0 → c .read-numbers2 .last .1 .1 .1 .1 .1 .0 ≡ laidOver (phandleList (b7 c)) (replicate 256 0)
   phandles-laid z =
-      c .read-numbers2 .ensures .1 ∙ numbers-found (b7 c) (well-5 read) (indexed read .index-properties .ensures) all-cpus {wanted = Phandles} refl 17 _ z
+      c .read-numbers2 .ensures .1
+      ∙ numbers-found (b7 c) (well-5 read) (indexed read .index-properties .ensures) all-cpus {wanted = Phandles} refl 17 _ z
 
 clear-phandles : (c : tie.Else5) → phandlesFault (b7 (c .before .before .before)) .number ≡ 0
 clear-phandles c = ap (λ (f : Fault). f .number) (sym (phandle-fault (c .before .before .before))) ∙ c .if5 .left
 
 rest-6 : (c : tie.Else5) → let b = b7 (c .before .before .before) in surveyFault b ≡ leavesFault (treeOf b) (cpuList b)
-rest-6 c = rest-5 (c .before .before .before .before .before .before) ∙ or-second (phandlesFault (b7 (c .before .before .before))) _ (clear-phandles c)
+rest-6 c =
+    rest-5 (c .before .before .before .before .before .before) ∙ or-second (phandlesFault (b7 (c .before .before .before))) _ (clear-phandles c)
 
 module _ (c : tie.Else5) where
   abbrev asked : tie.After-read-numbers2
@@ -237,7 +240,8 @@ module _ (c : tie.After-read-tree) where
   few-lent = rw lent-are (omega (arith, few-phandles e6, length-replicate {A = ℕ} 256 0))
 
   root-is : found .find-map .result .map ≡ mapOf (b8 c .nodes) (b8 c .pool)
-  root-is = ap (λ (r : MapScan). r .map) (found .find-map .ensures) ∙ map-root (b8 c .nodes) (b8 c .pool) (clear-map (asked e6 .before .before .before))
+  root-is =
+      ap (λ (r : MapScan). r .map) (found .find-map .ensures) ∙ map-root (b8 c .nodes) (b8 c .pool) (clear-map (asked e6 .before .before .before))
 
   abbrev keyed : tie.After-read-numbers
   keyed = read (asked e6)
@@ -264,11 +268,19 @@ module _ (c : tie.Else6) where
   clear-tree : leavesFault (treeOf (b8 call)) (cpuList (b8 call)) .number ≡ 0
   clear-tree = sym (tree-number call) ∙ c .if6 .left
 
-  leaves-laid : call .read-tree .last .1 .1 .1 .1 .1 .1 .1 .0 ≡ laidOver (leavesOf (b8 call)) (start (at-count (keyed call) .before) .args .leaves .now)
-  leaves-laid = call .read-tree .ensures .1 .0 ∙ ap (λ (t : Tree). leavesOver t (start (at-count (keyed call) .before) .args .leaves .now)) (tree-here call) ∙ leaves-listed (treeOf (b8 call)) (cpuList (b8 call)) clear-tree _
+  leaves-laid :
+      call .read-tree .last .1 .1 .1 .1 .1 .1 .1 .0 ≡ laidOver (leavesOf (b8 call)) (start (at-count (keyed call) .before) .args .leaves .now)
+  leaves-laid =
+      call .read-tree .ensures .1 .0
+      ∙ ap (λ (t : Tree). leavesOver t (start (at-count (keyed call) .before) .args .leaves .now)) (tree-here call)
+      ∙ leaves-listed (treeOf (b8 call)) (cpuList (b8 call)) clear-tree _
 
-  named-laid : call .read-tree .last .1 .1 .1 .1 .1 .1 .1 .1 .0 ≡ laidOver (namedOf (b8 call)) (start (at-count (keyed call) .before) .args .named .now)
-  named-laid = call .read-tree .ensures .1 .1 ∙ ap (λ (t : Tree). namedOver t (start (at-count (keyed call) .before) .args .named .now)) (tree-here call) ∙ named-listed (treeOf (b8 call)) (cpuList (b8 call)) clear-tree _
+  named-laid :
+      call .read-tree .last .1 .1 .1 .1 .1 .1 .1 .1 .0 ≡ laidOver (namedOf (b8 call)) (start (at-count (keyed call) .before) .args .named .now)
+  named-laid =
+      call .read-tree .ensures .1 .1
+      ∙ ap (λ (t : Tree). namedOver t (start (at-count (keyed call) .before) .args .named .now)) (tree-here call)
+      ∙ named-listed (treeOf (b8 call)) (cpuList (b8 call)) clear-tree _
 
   leaf-count : call .read-tree .result .count ≡ length (leavesOf (b8 call))
   leaf-count = ap (λ (r : TreeScan). r .count) (scanned call) ∙ rw (eq-eqb _ 0 clear-tree)
@@ -288,7 +300,8 @@ returns : tie.Need-returns
 returns c =
     let call = c .before .before .before in
     let is = call .table-fault .ensures in
-    tells-first (b1 call) (tableFault (b1 call)) _ (survey-stages (b1 call)) (c .stop .ensures) (c .before .if1 .taken) (ap (λ (f : Fault). f .number) is) (ap (λ (f : Fault). f .place) is)
+    tells-first (b1 call) (tableFault (b1 call)) _ (survey-stages (b1 call)) (c .stop .ensures) (c .before .if1 .taken)
+    (ap (λ (f : Fault). f .number) is) (ap (λ (f : Fault). f .place) is)
 
 read-cells-requires : tie.Need-read-cells-requires
 read-cells-requires c κs = search needs

@@ -15,10 +15,14 @@ second-map-requires : tie.Need-second-map-requires
 second-map-requires c κs = search needs
 
 returns-2 : tie.Need-returns-2
-returns-2 c = let pass = c .before .before in map-second _ _ (pass .before .before .lowest-map .ensures) (omega arith) (pass .second-map .ensures) (c .if2 .taken)
+returns-2 c =
+    let pass = c .before .before in
+    map-second _ _ (pass .before .before .lowest-map .ensures) (omega arith) (pass .second-map .ensures) (c .if2 .taken)
 
 returns-3 : tie.Need-returns-3
-returns-3 c = let pass = c .before .before in map-found _ _ (pass .before .before .lowest-map .ensures) (omega arith) (pass .second-map .ensures) (c .if2 .left)
+returns-3 c =
+    let pass = c .before .before in
+    map-found _ _ (pass .before .before .lowest-map .ensures) (omega arith) (pass .second-map .ensures) (c .if2 .left)
 
 pub find-map-spec : {M : Type 1} → statement M
 find-map-spec =

@@ -19,12 +19,14 @@ node-word-requires c κs = search needs
 tested :
     (c : tie.After-cell-at) →
     let a = c .before .before .before .before .before .before .args in
-    cond (eqb (c .cell-at .result) 0x6370752d) (eqb (cellAt (a .pool .now) (c .before .node-word2 .result + 3)) 0x2d6d6170) false ≡ isMapName (a .nodes .now) (a .pool .now) (a .i)
+    cond (eqb (c .cell-at .result) 0x6370752d) (eqb (cellAt (a .pool .now) (c .before .node-word2 .result + 3)) 0x2d6d6170) false
+    ≡ isMapName (a .nodes .now) (a .pool .now) (a .i)
 tested c =
     let seven = c .before .before in
     let known = seven .before .before in
     rw (c .cell-at .ensures)
-    (name-cells _ _ _ (seven .before .node-word .ensures) (λ k. omega (arith, known .shared-slice-known2 .given k)) (seven .if1 .left) (c .before .node-word2 .ensures))
+    (name-cells _ _ _ (seven .before .node-word .ensures) (λ k. omega (arith, known .shared-slice-known2 .given k))
+    (seven .if1 .left) (c .before .node-word2 .ensures))
 
 returns : tie.Need-returns
 returns c = other-name _ _ _ (c .before .node-word .ensures) (c .if1 .taken)

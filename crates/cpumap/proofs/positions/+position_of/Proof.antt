@@ -57,7 +57,9 @@ position-of-no-position-requires : (t : ℕ) → position-of-lts.Need-no-positio
 position-of-no-position-requires t c κs = search needs
 
 position-of-returns : (t : ℕ) → position-of-lts.Need-returns (claims t) (position-of-at t) position-of.Post
-position-of-returns t c = let told = c .before in c .no-position .ensures ∙ position-none _ _ _ (sym (told .before .before .parent-of .ensures) ∙ told .enum-told .given .1)
+position-of-returns t c =
+    let told = c .before in
+    c .no-position .ensures ∙ position-none _ _ _ (sym (told .before .before .parent-of .ensures) ∙ told .enum-told .given .1)
 
 position-of-topology-name-requires : (t : ℕ) → position-of-lts.Need-topology-name-requires (claims t) (position-of-at t) position-of.Post
 position-of-topology-name-requires t c κs = search needs

@@ -9,10 +9,14 @@ use Rattle.leaves.proofs.pass.checked_fault.Statement.{statement}
 use Rattle.leaves.proofs.pass.checked_fault.Tie as tie
 
 returns : tie.Need-returns
-returns c = let a = c .before .before .before .args in or-told (cond (a .check .leaf) (cond (isMarked (a .marks .now) (a .check .cpu)) 25 0) 0) refl (c .if1 .taken)
+returns c =
+    let a = c .before .before .before .args in
+    or-told (cond (a .check .leaf) (cond (isMarked (a .marks .now) (a .check .cpu)) 25 0) 0) refl (c .if1 .taken)
 
 returns-2 : tie.Need-returns-2
-returns-2 c = let a = c .before .before .before .before .before .args in or-next refl (c .before .before .if1 .left) (rw (not-true (a .check .leaf) (c .if2 .taken)))
+returns-2 c =
+    let a = c .before .before .before .before .before .args in
+    or-next refl (c .before .before .if1 .left) (rw (not-true (a .check .leaf) (c .if2 .taken)))
 
 is-marked-requires : tie.Need-is-marked-requires
 is-marked-requires c κs = search needs
@@ -21,13 +25,15 @@ returns-3 : tie.Need-returns-3
 returns-3 c =
     let test = c .before .before in
     let a = test .before .before .before .before .before .args in
-    or-next refl (test .before .before .if1 .left) (rw (not-false (a .check .leaf) (test .if2 .left), sym (c .before .is-marked .ensures) ∙ c .if3 .taken))
+    or-next refl (test .before .before .if1 .left)
+    (rw (not-false (a .check .leaf) (test .if2 .left), sym (c .before .is-marked .ensures) ∙ c .if3 .taken))
 
 returns-4 : tie.Need-returns-4
 returns-4 c =
     let test = c .before .before in
     let a = test .before .before .before .before .before .args in
-    or-next refl (test .before .before .if1 .left) (rw (not-false (a .check .leaf) (test .if2 .left), sym (c .before .is-marked .ensures) ∙ c .if3 .left))
+    or-next refl (test .before .before .if1 .left)
+    (rw (not-false (a .check .leaf) (test .if2 .left), sym (c .before .is-marked .ensures) ∙ c .if3 .left))
 
 pub checked-fault-spec : {M : Type 1} → statement M
 checked-fault-spec = tie.close (tie.spec returns returns-2 is-marked-requires returns-3 returns-4)

@@ -1,4 +1,5 @@
--- `scan_records` meets its contract: the lent arrays hold what is gathered before record i, and a leaf that breaks no rule has room in them. Assumes nothing.
+-- `scan_records` meets its contract: the lent arrays hold what is gathered before record i, and a leaf that breaks no rule has room in them.
+-- Assumes nothing.
 use mathlib.Core.Path.{_≡_, sym, ap, _∙_}
 use mathlib.Core.Bool.{true}
 use mathlib.Core.List.{List}
@@ -12,12 +13,14 @@ use Rattle.leaves.specs.answers.Check.{indexedCells}
 use Rattle.leaves.specs.answers.Scan.{Tree, tree, isLeaf, treeFault}
 use Rattle.leaves.specs.steps.Pass.{Marked}
 use Rattle.leaves.proofs.LeafCount.{leaf-is}
-use Rattle.leaves.proofs.GatherLaws.{Gathered, gathered-none, fault-is, told-scan, told-left, all-scan, all-left, gather-keep, gather-room, gather-push}
+use Rattle.leaves.proofs.GatherLaws.{Gathered, gathered-none, fault-is, told-scan, told-left, all-scan, all-left}
+use Rattle.leaves.proofs.GatherLaws.{gather-keep, gather-room, gather-push}
 use Rattle.leaves.proofs.pass.scan_records.Statement.{statement}
 use Rattle.leaves.proofs.pass.scan_records.Tie as tie
 
 abbrev Inv-loop : tie.InvT-loop
-Inv-loop nodes props pool index map phandles marks₀ leaves₀ named₀ n count₀ i₀ marks leaves named count i = (i ≤ n) × Gathered (tree nodes (indexedCells props pool index) pool map phandles) leaves₀ named₀ marks leaves named count i
+Inv-loop nodes props pool index map phandles marks₀ leaves₀ named₀ n count₀ i₀ marks leaves named count i =
+    (i ≤ n) × Gathered (tree nodes (indexedCells props pool index) pool map phandles) leaves₀ named₀ marks leaves named count i
 
 abbrev μ-loop : tie.MeasureT-loop
 μ-loop nodes props pool index map phandles marks₀ leaves₀ named₀ n count₀ i₀ marks leaves named count i = n - i
@@ -27,14 +30,22 @@ abbrev entry : tie.At-loop Inv-loop μ-loop → tie.Start Inv-loop μ-loop
 entry c = c .before .before .before .before .before .before
 
 abbrev treeIn : tie.Start Inv-loop μ-loop → Tree
-treeIn s = let a = s .args in tree (a .nodes .now) (indexedCells (a .props .now) (a .pool .now) (a .index .now)) (a .pool .now) (a .map) (a .phandles .now)
+treeIn s =
+    let a = s .args in
+    tree (a .nodes .now) (indexedCells (a .props .now) (a .pool .now) (a .index .now)) (a .pool .now) (a .map) (a .phandles .now)
 
 -- what the check of record i answers is what it breaks
-fault : (c : tie.After-checked-fault Inv-loop μ-loop) → let at = c .before .before .before .before in c .checked-fault .result ≡ treeFault (treeIn (entry at)) (at .loop .i)
-fault c = let call = c .before .before in fault-is _ _ _ (call .before .before .loop .inv .1) (call .record-check .ensures) (c .checked-fault .ensures)
+fault :
+    (c : tie.After-checked-fault Inv-loop μ-loop) →
+    let at = c .before .before .before .before in c .checked-fault .result ≡ treeFault (treeIn (entry at)) (at .loop .i)
+fault c =
+    let call = c .before .before in
+    fault-is _ _ _ (call .before .before .loop .inv .1) (call .record-check .ensures) (c .checked-fault .ensures)
 
 -- record i is a leaf
-leaf : (c : tie.Else2 Inv-loop μ-loop) → let at = c .before .before .before .before .before .before .before in isLeaf (treeIn (entry at)) (at .loop .i) ≡ true
+leaf :
+    (c : tie.Else2 Inv-loop μ-loop) →
+    let at = c .before .before .before .before .before .before .before in isLeaf (treeIn (entry at)) (at .loop .i) ≡ true
 leaf c =
     let call = c .before .before .before .before .before in
     sym (ap (λ (r : RecordCheck). r .leaf) (call .record-check .ensures)) ∙ not-false (call .record-check .result .leaf) (c .if2 .left)
@@ -49,7 +60,8 @@ room c =
 cpu-room : (c : tie.Else2 Inv-loop μ-loop) → c .before .before .before .before .before .record-check .result .cpu < 256
 cpu-room c =
     let call = c .before .before .before .before .before in
-    omega (arith, ap (λ (r : RecordCheck). r .cpu) (call .record-check .ensures), leaf-is _ _ (leaf c) .inside, entry (call .before .before) .pre .0 .0)
+    let cpu = ap (λ (r : RecordCheck). r .cpu) (call .record-check .ensures) in
+    omega (arith, leaf-is _ _ (leaf c) .inside, entry (call .before .before) .pre .0 .0)
 
 -- the marks keep their number
 same-size : (s : tie.Start Inv-loop μ-loop) {n : ℕ} {marks : List ℕ} → Marked (treeIn s) n marks → length marks ≡ length (s .args .marks .now)
@@ -132,7 +144,8 @@ loop-again-2 c =
     let call = test .before .before .before in
     let at = call .before .before in (
       omega (arith, call .before .loop-test .taken),
-      gather-push _ _ _ (at .loop .inv .1) (fault (test .before)) (test .if1 .left) (entry at .pre .0 .0) (leaf c) (ap (λ (r : RecordCheck). r .cpu) (call .record-check .ensures)) (cpu-room c),
+      gather-push _ _ _ (at .loop .inv .1) (fault (test .before)) (test .if1 .left) (entry at .pre .0 .0) (leaf c)
+          (ap (λ (r : RecordCheck). r .cpu) (call .record-check .ensures)) (cpu-room c),
     )
 
 same-length-2 : tie.Need-same-length-2 Inv-loop μ-loop

@@ -50,7 +50,8 @@ slice-aggregate-scan-records-3 c = search needs
 scan-records-requires : tie.Need-scan-records-requires
 scan-records-requires c κs =
     let at = c .before .before .before .before .before in
-    ((cut-few (start at .args .phandles .now) maxCpus (known at), omega (arith, cut-few (start at .args .nodes .now) (3 * maxNodes) (words at))), refl)
+    let few = cut-few (start at .args .nodes .now) (3 * maxNodes) (words at) in
+    ((cut-few (start at .args .phandles .now) maxCpus (known at), omega arith), refl)
 
 returns : tie.Need-returns
 returns c =
@@ -74,7 +75,8 @@ returns-2 c =
     let call = test .before .before .before in
     let pass = cut-pass _ _ _ _ _ _ (words (cut call)) (known (cut call)) (call .scan-records .ensures) in
     let is = last-is _ (records call) (pass .0) (test .if1 .left) (pass .1 .marks-left) (last .first-unmapped .ensures) in
-    (c .refuse .ensures ∙ last-told _ (records call) (pass .0) (test .if1 .left) is (c .before .if2 .taken), (pass .1 .leaves-left, pass .1 .named-left))
+    let told = last-told _ (records call) (pass .0) (test .if1 .left) is (c .before .if2 .taken) in
+    (c .refuse .ensures ∙ told, (pass .1 .leaves-left, pass .1 .named-left))
 
 returns-3 : tie.Need-returns-3
 returns-3 c =

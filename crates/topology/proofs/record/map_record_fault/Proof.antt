@@ -14,11 +14,21 @@ use Rattle.topology.proofs.record.map_record_fault.Statement.{statement
 use Rattle.topology.proofs.record.map_record_fault.Tie as tie
 
 -- the word read is the parent
-parent : (c : tie.After-node-word) → let a = c .before .before .before .before .before .args in c .node-word .result ≡ parentWord (a .nodes .now) (a .i)
+parent :
+    (c : tie.After-node-word) → let a = c .before .before .before .before .before .args in c .node-word .result ≡ parentWord (a .nodes .now) (a .i)
 parent c = let a = c .before .before .before .before .before .args in c .node-word .ensures ∙ word-zero (a .nodes .now) (3 * a .i)
 
-rest : (c : tie.After-node-word) → let a = c .before .before .before .before .before .args in let p = c .node-word .result in orNumber (kindFault (a .nodes .now) (a .pool .now) (a .map) p (a .name)) (orNumber (numberFault (a .nodes .now) p (a .i) (a .name)) (shapeFault (a .nodes .now) (a .pool .now) p (a .i) (a .name))) ≡ mapRecordFault (a .nodes .now) (a .pool .now) (a .map) (a .i) (a .name)
-rest c = let a = c .before .before .before .before .before .args in named-fault (a .nodes .now) (a .pool .now) (a .map) (a .i) (a .name) (λ e. c .before .if1 .left (c .before .before .kind-number .ensures ∙ e)) (parent c)
+rest :
+    (c : tie.After-node-word) →
+    let a = c .before .before .before .before .before .args in
+    let p = c .node-word .result in
+    orNumber (kindFault (a .nodes .now) (a .pool .now) (a .map) p (a .name))
+    (orNumber (numberFault (a .nodes .now) p (a .i) (a .name)) (shapeFault (a .nodes .now) (a .pool .now) p (a .i) (a .name)))
+    ≡ mapRecordFault (a .nodes .now) (a .pool .now) (a .map) (a .i) (a .name)
+rest c =
+    let a = c .before .before .before .before .before .args in
+    named-fault (a .nodes .now) (a .pool .now) (a .map) (a .i) (a .name)
+    (λ e. c .before .if1 .left (c .before .before .kind-number .ensures ∙ e)) (parent c)
 
 kind-number-requires : tie.Need-kind-number-requires
 kind-number-requires c κs = search needs
@@ -39,7 +49,10 @@ returns-2 : tie.Need-returns-2
 returns-2 c =
     let word = c .before .before in
     let a = word .before .before .before .before .before .args in
-    or-told (orNumber (numberFault (a .nodes .now) (word .node-word .result) (a .i) (a .name)) (shapeFault (a .nodes .now) (a .pool .now) (word .node-word .result) (a .i) (a .name))) (c .before .kind-fault .ensures) (c .if2 .taken) ∙ rest word
+    let p = word .node-word .result in
+    or-told (orNumber (numberFault (a .nodes .now) p (a .i) (a .name)) (shapeFault (a .nodes .now) (a .pool .now) p (a .i) (a .name)))
+    (c .before .kind-fault .ensures) (c .if2 .taken)
+    ∙ rest word
 
 number-fault-requires : tie.Need-number-fault-requires
 number-fault-requires c κs =
@@ -50,7 +63,9 @@ returns-3 : tie.Need-returns-3
 returns-3 c =
     let word = c .before .before .before .before in
     let a = word .before .before .before .before .before .args in
-    or-next (c .before .before .before .kind-fault .ensures) (c .before .before .if2 .left) (or-told (shapeFault (a .nodes .now) (a .pool .now) (word .node-word .result) (a .i) (a .name)) (c .before .number-fault .ensures) (c .if3 .taken))
+    or-next (c .before .before .before .kind-fault .ensures) (c .before .before .if2 .left)
+    (or-told (shapeFault (a .nodes .now) (a .pool .now) (word .node-word .result) (a .i) (a .name))
+    (c .before .number-fault .ensures) (c .if3 .taken))
     ∙ rest word
 
 shape-fault-requires : tie.Need-shape-fault-requires
@@ -60,7 +75,8 @@ returns-4 : tie.Need-returns-4
 returns-4 c =
     let number = c .before .before in
     let kind = number .before .before in
-    or-next (kind .kind-fault .ensures) (number .before .if2 .left) (or-next (number .number-fault .ensures) (c .before .if3 .left) (c .shape-fault .ensures))
+    or-next (kind .kind-fault .ensures) (number .before .if2 .left)
+    (or-next (number .number-fault .ensures) (c .before .if3 .left) (c .shape-fault .ensures))
     ∙ rest (kind .before)
 
 pub map-record-fault-spec : {M : Type 1} → statement M

@@ -42,7 +42,8 @@ unfolding recordShape
 returns-3 c =
     let test = c .before in
     let map = test .before .before .before in
-    rw (ne-eqb _ _ (map .before .if1 .left), ne-eqb _ _ (map .if2 .left), sym (test .before .is-below .ensures) ∙ test .if3 .taken) (c .map-record-shape .ensures)
+    rw (ne-eqb _ _ (map .before .if1 .left), ne-eqb _ _ (map .if2 .left), sym (test .before .is-below .ensures) ∙ test .if3 .taken)
+    (c .map-record-shape .ensures)
 
 outside-fault-requires : tie.Need-outside-fault-requires
 outside-fault-requires c κs = search needs

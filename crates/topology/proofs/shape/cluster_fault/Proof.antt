@@ -9,7 +9,9 @@ depth-fault-requires : tie.Need-depth-fault-requires
 depth-fault-requires c κs = search needs
 
 returns : tie.Need-returns
-returns c = let a = c .before .before .before .before .args in or-told (groupFault (a .nodes .now) (a .i)) (c .before .depth-fault .ensures) (c .if1 .taken)
+returns c =
+    let a = c .before .before .before .before .args in
+    or-told (groupFault (a .nodes .now) (a .i)) (c .before .depth-fault .ensures) (c .if1 .taken)
 
 group-fault-requires : tie.Need-group-fault-requires
 group-fault-requires c κs = search needs

@@ -1,7 +1,7 @@
 -- The first broken one of rules 15 and 16 is told. Assumes well-formed tables.
 use mathlib.Core.Path.{_≡_, refl, sym, _∙_}
 use mathlib.Core.Bool.{Bool, cond}
-use Prim.Native.Nat.{ℕ, _<_}
+use Prim.Native.Nat.{ℕ, _≤_, _<_}
 use native.Mathlib.Omega.{arith}
 use Rattle.laws.proofs.FirstLaws.{NoneIn, Tells, stage-tells}
 use Rattle.laws.proofs.RuleStageLaws.{then-tells}
@@ -12,11 +12,19 @@ use Rattle.tables.specs.facts.Board.{Board, nodeCount, nodeName}
 use Rattle.wellformed.specs.facts.Order.{stage}
 use Rattle.wellformed.specs.facts.Rules.{WellFormed}
 use Rattle.tables.specs.facts.Binding.{mapWord}
 use Rattle.cpumap.specs.facts.Map.{Map}
-use Rattle.topology.specs.facts.Rules.{MapRule}
+use Rattle.cpumap.specs.facts.Rules.{MapRule}
 use Rattle.cpumap.specs.answers.Find.{mapOf, noMapFault, secondMapFault, mapFault}
-use Rattle.topology.proofs.RuleCases.{Second, Staged, staged}
 use Rattle.cpumap.proofs.MapMeans.{map-name-test, map-of, map-found, map-is}
+
+-- a record named `cpu-map` that is not the map
+abbrev Second : Board → ℕ → Type 0
+Second b i = (m : ℕ) × Map b m × (i < nodeCount (b .nodes)) × (nodeName b i ≡ mapWord) × (i ≡ m → ⊥)
+
+-- the stages of rules 15 and 16
+pub map-staged : {b : Board} {n p : ℕ} → MapRule b n p → (stage 15 ≤ stage n) × (stage n < stage 17)
+map-staged (MapRule.cpuMapMissing _) = omega arith
+map-staged (MapRule.cpuMapDuplicate _ _ _ _ _ _) = omega arith
 
 module _ (b : Board) (well : WellFormed b) where
   abbrev count : ℕ
@@ -47,11 +55,13 @@ module _ (b : Board) (well : WellFormed b) where
       go (Decided.fails n) e = Verdict.sound (λ w. n (w .3))
 
   -- what their stages refute
-  no-map-broken : {m q : ℕ} → Staged b (stage 15) m q → (m ≡ 15) × (q ≡ 0) × (Map b found → ⊥)
-  no-map-broken (Staged.noMap none) = (refl, refl, none found)
+  no-map-broken : {m q : ℕ} → MapRule b m q → stage m ≡ stage 15 → (m ≡ 15) × (q ≡ 0) × (Map b found → ⊥)
+  no-map-broken (MapRule.cpuMapMissing none) _ = (refl, refl, none found)
+  no-map-broken (MapRule.cpuMapDuplicate _ _ _ _ _ _) e = absurd (omega arith)
 
-  second-map-broken : {m q : ℕ} → Staged b (stage 16) m q → (m ≡ 16) × (q < count) × ((Second b q → ⊥) → ⊥)
-  second-map-broken (Staged.secondMap w) = (refl, w .2, λ none. none w)
+  second-map-broken : {m q : ℕ} → MapRule b m q → stage m ≡ stage 16 → (m ≡ 16) × (q < count) × ((Second b q → ⊥) → ⊥)
+  second-map-broken (MapRule.cpuMapMissing _) e = absurd (omega arith)
+  second-map-broken (MapRule.cpuMapDuplicate m i map lt name ne) _ = (refl, lt, λ none. none (m, map, lt, name, ne))
 
   -- where neither is broken there is a map
   pub map-there : {to : ℕ} → stage 15 < to → NoneIn stage (MapRule b) (stage 15) to → Map b found
@@ -61,7 +71,7 @@ module _ (b : Board) (well : WellFormed b) where
   unfolding mapFault
   map-tells =
       then-tells stage (MapRule b) (omega arith) (omega arith)
-      (once-tells stage (MapRule b) 15 (omega arith) (λ m q r e. no-map-broken (rw e at (staged r))) no-map-told) λ none.
+      (once-tells stage (MapRule b) 15 (omega arith) (λ m q. no-map-broken) no-map-told) λ none.
       stage-tells stage (MapRule b) (stage 16) count (secondMapFault (b .nodes) (b .pool))
-      (number-stage stage (MapRule b) 16 (omega arith) (λ i. Second b i → ⊥) (λ m q r e. second-map-broken (rw e at (staged r)))
+      (number-stage stage (MapRule b) 16 (omega arith) (λ i. Second b i → ⊥) (λ m q. second-map-broken)
       (λ q lt _. second-map-told (map-there (omega arith) none) q lt))
