@@ -110,7 +110,7 @@ module _ (b : Board) (well : WellFormed b) where
       (before : List ℕ) → laidOver (listBelow (isCpu (b .nodes) (b .pool)) (min (nodeCount (b .nodes)) maxNodes)) before ≡ laidOver (cpuList b) before
   listed-all before = rw all-records
 
--- the table of keys of a board
+-- the index of a board's properties
 abbrev pub boardKeys : Board → List ℕ
 boardKeys b = indexed (replicate 4096 0) (b .props) (b .pool)
 
@@ -122,7 +122,7 @@ module _ (b : Board) (well : WellFormed b) {index records : List ℕ} (keys-are 
       (index-finds (b .props) (b .pool) (wf-props well .0)
       (λ k lt. omega (arith, wf-prop-node well k lt, wf-nodes well .1)))
 
-  -- rules 11 to 13, and rule 17: the readings by the table of keys and the records listed
+  -- rules 11 to 13, and rule 17: the readings by the index of properties and the records listed
   module _ {asked wanted : CpuNumbers} (asked-is : asked ≡ wanted) (rule : ℕ) where
     abbrev here : ℕ → CpuReading
     here = readingAt asked (b .props) (b .pool) index

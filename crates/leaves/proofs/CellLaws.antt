@@ -1,4 +1,4 @@
--- The cells of the records' `cpu`, by a table of keys and looked up. Assumes nothing.
+-- The cells of the records' `cpu`, by an index of properties and looked up. Assumes nothing.
 use mathlib.Core.Path.{_≡_, ap, fun-ext}
 use mathlib.Core.List.{List}
 use Prim.Native.Nat.{ℕ}

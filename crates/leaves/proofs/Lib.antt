@@ -10,5 +10,5 @@ pub mod LeafRules
 pub mod TreeLeast
 pub mod TreeTells
 pub mod TreeGives
-pub mod GatherLaws
+pub mod RecordPassLaws
 pub mod ScanLaws

@@ -22,7 +22,7 @@ use Rattle.leaves.specs.answers.Scan.{Tree, tree, lentTree, cpuOf, named
 use Rattle.leaves.specs.answers.Scan.{leavesOver, namedOver}
 use Rattle.leaves.specs.steps.Pass.{Marked, PassArrays, leafScan, unmarkedFault}
 use Rattle.leaves.proofs.LeafCount.{leaves-le, clear-apart}
-use Rattle.leaves.proofs.GatherLaws.{marked-is}
+use Rattle.leaves.proofs.RecordPassLaws.{marked-is}
 
 -- what the passes tell
 module _ (t : Tree) (records : List ℕ) where

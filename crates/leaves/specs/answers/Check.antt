@@ -27,7 +27,7 @@ leafCpu cells phandles i = indexOf phandles (cells i)
 abbrev pub cpuCells : List ℕ → List ℕ → ℕ → Value
 cpuCells props pool i = cellOf props pool i cpuKey
 
--- the same, by a table of keys
+-- the same, by an index of properties
 abbrev pub indexedCells : List ℕ → List ℕ → List ℕ → ℕ → Value
 indexedCells props pool index i = cellIn props pool (indexedAt index i Cpu)
 

@@ -31,7 +31,7 @@ tree nodes cells pool root phandles = record { nodes = nodes; cells = cells; poo
 abbrev pub check : Tree → ℕ → RecordCheck
 check t i = recordCheck (t .nodes) (t .cells) (t .pool) (t .root) (t .phandles) i
 
--- the tree of lent slices: their first 1,024 node records and 256 phandles, and the cells of `cpu` by a table of keys
+-- the tree of lent slices: their first 1,024 node records and 256 phandles, and the cells of `cpu` by an index of properties
 abbrev pub lentTree : (nodes props pool index : List ℕ) → ℕ → List ℕ → Tree
 lentTree nodes props pool index root phandles = tree (take (3 * maxNodes) nodes) (indexedCells props pool index) pool root (take maxCpus phandles)
 

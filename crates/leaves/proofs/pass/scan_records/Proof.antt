@@ -13,8 +13,8 @@ use Rattle.leaves.specs.answers.Check.{indexedCells}
 use Rattle.leaves.specs.answers.Scan.{Tree, tree, isLeaf, treeFault}
 use Rattle.leaves.specs.steps.Pass.{Marked}
 use Rattle.leaves.proofs.LeafCount.{leaf-is}
-use Rattle.leaves.proofs.GatherLaws.{Gathered, gathered-none, fault-is, told-scan, told-left, all-scan, all-left}
-use Rattle.leaves.proofs.GatherLaws.{gather-keep, gather-room, gather-push}
+use Rattle.leaves.proofs.RecordPassLaws.{Gathered, gathered-none, fault-is, told-scan, told-left, all-scan, all-left}
+use Rattle.leaves.proofs.RecordPassLaws.{gather-keep, gather-room, gather-push}
 use Rattle.leaves.proofs.pass.scan_records.Statement.{statement}
 use Rattle.leaves.proofs.pass.scan_records.Tie as tie
 
