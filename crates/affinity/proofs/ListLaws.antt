@@ -31,7 +31,7 @@ bit-affine x h = go (isAffine x) refl h
 
 module _ (list : List ℕ) where
   -- no number told: no bit outside
-  pub clear-affine : firstOutside list .number ≡ 0 → AllAffine list
+  clear-affine : firstOutside list .number ≡ 0 → AllAffine list
   unfolding firstOutside
   clear-affine h i lt =
       test-affine (getD list i 0) (bit-affine (getD list i 0) (first-is (λ k. bitFault (getD list k 0)) (length list) .none h .1 i lt))

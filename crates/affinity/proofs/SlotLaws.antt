@@ -100,7 +100,7 @@ module _ (m a : ℕ) where
   unfolding slotOf hashOfMask shiftsOf
   slot-max k = simp digit-or
 
-  pub slot-digit :
+  slot-digit :
       (l : ℕ) → l < 4 → (j : ℕ) → j < widthOf (levelPart m l) → digit (slotOf (hashOfMask m) a) (bitsBelow m l + j) ≡ digit (bitAnd a m) (beginOf l + lowOf (levelPart m l) + j)
   unfolding sumBelow
   slot-digit l h j lt = slot-max (bitsBelow m l + j) ∙ max-one (levelDigit (bitsBelow m l + j)) l h other ∙ level-in m a l h j lt

@@ -61,7 +61,7 @@ pub reg-affine : {b : Board} {i u l : ℕ} → Reg b i u l → Affine (mpidr u l
 reg-affine {b} {i} {u} {l} r = let t = reg-bounds r in test-affine (mpidr u l) (parts-affine u l (t .0) (t .1))
 
 module _ {b : Board} (well : WellFormed b) where
-  pub cells-unique : {m n : ℕ} → AddressCells b m → AddressCells b n → m ≡ n
+  cells-unique : {m n : ℕ} → AddressCells b m → AddressCells b n → m ≡ n
   cells-unique {m} {n} a c = cell-bytes-apart m n (allowed-lt (a .allowed)) (allowed-lt (c .allowed)) (value-unique well (a .value) (c .value))
 
   not-both : {A : Type 0} → AddressCells b 1 → AddressCells b 2 → A
@@ -73,7 +73,7 @@ module _ {b : Board} (well : WellFormed b) where
   reg-value g h (Reg.twoCells a r hu hl) = Reg.twoCells a (rw (value-unique well g r) at h) hu hl
 
   -- a `reg` is a value of so many cells, its MPIDR
-  pub reg-number :
+  reg-number :
       (c : Cells) →
       AddressCells b (countOf c) →
       {i u l : ℕ} →

@@ -35,12 +35,12 @@ answered-in Kind.cluster n = (refl, refl)
 answered-in Kind.core n = (refl, refl)
 answered-in Kind.thread n = (refl, refl)
 
-pub answered-same : (k j : Kind) (n m : ℕ) → namedAs k n ≡ namedAs j m → (k ≡ j) × (n ≡ m)
+answered-same : (k j : Kind) (n m : ℕ) → namedAs k n ≡ namedAs j m → (k ≡ j) × (n ≡ m)
 answered-same k j n m h =
     let e : Decimal n ≡ Decimal m = sym (answered-in k n .1) ∙ ap numberIn h ∙ answered-in j m .1 in
     (sym (answered-in k n .0) ∙ ap kindIn h ∙ answered-in j m .0, cc)
 
-pub answered-other : (kind : Kind) (n : ℕ) → namedAs kind n ≡ Other → ⊥
+answered-other : (kind : Kind) (n : ℕ) → namedAs kind n ≡ Other → ⊥
 answered-other kind n h = not-is (sym (ap numberIn h) ∙ answered-in kind n .1)
 
 -- Other, or a kind and a number that the name gives

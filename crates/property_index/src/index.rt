@@ -4,12 +4,13 @@ use crate::KEYS;
 use crate::Key;
 use crate::name::key_number;
 use crate::name::key_of;
+use laws::at_most;
 use laws::limits::MAX_NODES;
 use laws::limits::MAX_PROPERTIES;
 use tables::Lookup;
 use tables::wide;
 ghost use mathlib.Core.Path.{_≡_};
-ghost use Prim.Native.Nat.{_<_, min};
+ghost use Prim.Native.Nat.{_<_};
 ghost use Rattle.property_index.specs.answers.Index.{noted, notedKey, indexed, indexedAt};
 
 // Notes property k at a place where none is noted.
@@ -43,20 +44,11 @@ fn note_key(
     }
 }
 
-fn fewer(a: usize, b: usize) -> usize
-    ensures { λ r. ⌜ r ≡ min a b ⌝ }
-{
-    if a < b {
-        return a;
-    }
-    b
-}
-
 // Notes in a table, made of zeros, where the keys of each record stand.
 pub fn index_properties(props: &[u32], pool: &[u8], table: &mut [u16; INDEX_WORDS])
     ensures { λ _. ⌜ now (table .exit) ≡ indexed (now (table .entry)) (now (props .entry)) (now (pool .entry)) ⌝ }
 {
-    let n = fewer(props.len() / 5, MAX_PROPERTIES);
+    let n = at_most(props.len() / 5, MAX_PROPERTIES);
     let mut k: usize = 0;
     while k < n {
         let at = 5 * k;

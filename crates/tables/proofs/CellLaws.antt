@@ -73,7 +73,7 @@ module _ (pool : List ℕ) (at : ℕ) (inside : at + 4 ≤ length pool) where
   the-cell = rw (le-leb (at + 4) (length pool) inside)
 
   -- a cell below 2 ^ 32 whose bytes stand there is the one read
-  pub cell-back : (w : ℕ) → w < 2 ^ 32 → range pool at 4 ≡ cellBytes w → cellAt pool at ≡ w
+  cell-back : (w : ℕ) → w < 2 ^ 32 → range pool at 4 ≡ cellBytes w → cellAt pool at ≡ w
   cell-back w h e = go (sym four-bytes ∙ e)
     where
       go : getD pool at 0 ∷ getD pool (at + 1) 0 ∷ getD pool (at + 2) 0 ∷ getD pool (at + 3) 0 ∷ [] ≡ cellBytes w → cellAt pool at ≡ w

@@ -14,7 +14,7 @@ use Rattle.tables.proofs.TreeLaws.{parent-is, below-ancestor, below-her
 
 module _ (nodes : List ℕ) where
   -- an ancestor's number is smaller
-  pub ancestor-less : {a i : ℕ} → Ancestor nodes a i → a < i
+  ancestor-less : {a i : ℕ} → Ancestor nodes a i → a < i
   ancestor-less (Ancestor.parent h) = h .earlier
   ancestor-less (Ancestor.above h t) = omega (arith, ancestor-less t, h .earlier)
 

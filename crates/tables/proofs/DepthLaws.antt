@@ -23,7 +23,7 @@ module _ {nodes : List ℕ} where
   child-unique c d = sym (c .word) ∙ d .word
 
   -- a record whose parent word names the record before it
-  pub next-child : {p : ℕ} → suc p < nodeCount nodes → parentWord nodes (suc p) ≡ p → Child nodes p (suc p)
+  next-child : {p : ℕ} → suc p < nodeCount nodes → parentWord nodes (suc p) ≡ p → Child nodes p (suc p)
   next-child lt e = record { inside = lt; word = e; earlier = omega arith }
 
   -- an ancestor is an earlier record, and what is below it is in the table
@@ -62,24 +62,6 @@ module _ {nodes : List ℕ} where
     pub has-parent : (i : ℕ) → suc i < nodeCount nodes → Child nodes (parentWord nodes (suc i)) (suc i)
     has-parent i lt =
         record { inside = lt; word = refl; earlier = ⊎-elim (λ e. omega arith) (λ t. omega (arith, ancestor-earlier t)) (depth i lt) }
-
-    -- an ancestor of a record is one of the next record, unless the next record's parent is that ancestor or an earlier record
-    next-below : {a : ℕ} (i : ℕ) → suc i < nodeCount nodes → Ancestor nodes a i → Ancestor nodes a (suc i) ⊎ (parentWord nodes (suc i) ≤ a)
-    next-below {a} i lt s = ⊎-elim (λ e. inl (under (rw e s))) (λ t. ⊎-elim (λ e. inr (omega arith)) (⊎-elim (λ u. inl (under u)) late) (ancestor-chain s t)) (depth i lt)
-      where
-        under : Ancestor nodes a (parentWord nodes (suc i)) → Ancestor nodes a (suc i)
-        under = Ancestor.above (has-parent i lt)
-
-        late : Ancestor nodes (parentWord nodes (suc i)) a → Ancestor nodes a (suc i) ⊎ (parentWord nodes (suc i) ≤ a)
-        late u = let l = ancestor-earlier u in inr (omega arith)
-
-    -- record 0 is an ancestor of every other
-    under-root : (i : ℕ) → suc i < nodeCount nodes → parentWord nodes (suc i) ≤ 0 → Ancestor nodes 0 (suc i)
-    under-root i lt z = Ancestor.parent (record { inside = lt; word = omega arith; earlier = omega arith })
-
-    pub root-above : (i : ℕ) → suc i < nodeCount nodes → Ancestor nodes 0 (suc i)
-    root-above zero lt = under-root zero lt (omega (arith, has-parent zero lt .earlier))
-    root-above (suc i) lt = ⊎-elim (λ t. t) (under-root (suc i) lt) (next-below (suc i) lt (root-above i (omega arith)))
 
     -- what is below p goes back without a gap ..
     before : {p : ℕ} (i : ℕ) → Ancestor nodes p (suc i) → p < i → Ancestor nodes p i

@@ -1,7 +1,7 @@
 -- What the lookup of a property answers. Assumes nothing.
 use mathlib.Core.Path.{_≡_, refl}
 use mathlib.Core.Bool.{Bool, true, false, cond}
-use mathlib.Core.Logic.{_⊎_, inl, inr, ⊎-elim}
+use mathlib.Core.Logic.{_⊎_, inl, inr}
 use mathlib.Core.List.{List}
 use Prim.Native.Nat.{ℕ, _+_, _<_}
 use native.Mathlib.Omega.{arith}
@@ -10,7 +10,6 @@ use lib.ListN.{length}
 use borrow.Author.Tests.{le-leb, leb-true, eq-eqb, eqb-true, ltb-true, ltb-false}
 use Rattle.laws.specs.answers.Search.{lowest}
 use Rattle.laws.proofs.SearchLaws.{true-false, lowest-below, lowest-passes}
-use Rattle.laws.proofs.FirstLaws.{compared}
 use Rattle.laws.proofs.SameLaws.{same-refl, same-equal}
 use Rattle.laws.proofs.TestLaws.{both-true}
 use Rattle.tables.specs.declared.Lookup.{Lookup}
@@ -39,14 +38,14 @@ pub record LowestProperty (b : Board) (i : ℕ) (key : List ℕ) (k : ℕ) : Typ
 
 module _ (b : Board) (i : ℕ) (key : List ℕ) where
   -- the test of a property record
-  pub is-property-true : (k : ℕ) → isProperty (b .props) (b .pool) i key k ≡ true → k < propCount (b .props) → Property b i key k
+  is-property-true : (k : ℕ) → isProperty (b .props) (b .pool) i key k ≡ true → k < propCount (b .props) → Property b i key k
   unfolding isProperty
   is-property-true k h lt =
       let t = both-true (eqb (propNode (b .props) k) i) h in
       let r = range-is-true (b .pool) (keyOffset (b .props) k) (keyLength (b .props) k) key (t .1) in
       record { inside = lt; node = eqb-true (propNode (b .props) k) i (t .0); range = r .0; name = r .1 }
 
-  pub true-is-property : (k : ℕ) → Property b i key k → isProperty (b .props) (b .pool) i key k ≡ true
+  true-is-property : (k : ℕ) → Property b i key k → isProperty (b .props) (b .pool) i key k ≡ true
   unfolding isProperty
   true-is-property k h =
       rw (eq-eqb (propNode (b .props) k) i (h .node)) (true-range-is (b .pool) (keyOffset (b .props) k) (keyLength (b .props) k) key (h .range) (h .name))
@@ -61,7 +60,7 @@ module _ (b : Board) (i : ℕ) (key : List ℕ) where
   found = lowest test count
 
   -- what each answer of the lookup shows, on any tables: the lowest record that matches ..
-  pub lookup-at : (k : ℕ) → lookup (b .props) (b .pool) i key ≡ At k → LowestProperty b i key k
+  lookup-at : (k : ℕ) → lookup (b .props) (b .pool) i key ≡ At k → LowestProperty b i key k
   unfolding lookup
   lookup-at k = go (ltb found count) refl
     where
@@ -77,7 +76,7 @@ module _ (b : Board) (i : ℕ) (key : List ℕ) where
       go false e g = let z : _≡_ {A = ℕ} 0 1 = cc in absurd (omega arith)
 
   -- .. or that none does
-  pub lookup-missing : lookup (b .props) (b .pool) i key ≡ Missing → (k : ℕ) → Property b i key k → ⊥
+  lookup-missing : lookup (b .props) (b .pool) i key ≡ Missing → (k : ℕ) → Property b i key k → ⊥
   unfolding lookup
   lookup-missing = go (ltb found count) refl
     where
@@ -94,17 +93,3 @@ module _ (b : Board) (i : ℕ) (key : List ℕ) where
       go : (l : Lookup) → lookup (b .props) (b .pool) i key ≡ l → Answers (lookup (b .props) (b .pool) i key)
       go (At k) e = inl (k, e, lookup-at k e)
       go Missing e = inr (e, lookup-missing e)
-
-  -- .. and the other way: the answer is the lowest match, or Missing where there is none
-  pub at-lookup : (k : ℕ) → LowestProperty b i key k → lookup (b .props) (b .pool) i key ≡ At k
-  at-lookup k h = ⊎-elim (λ t. rw (same (t .0) (t .2)) at (t .1)) (λ t. absurd (t .1 k (h .property))) lookup-cases
-    where
-      same : (j : ℕ) → LowestProperty b i key j → j ≡ k
-      same j g =
-          ⊎-elim
-          (λ lt. absurd (h .no-lower j lt (g .property)))
-          (⊎-elim (λ e. e) (λ lt. absurd (g .no-lower k lt (h .property))))
-          (compared j k)
-
-  pub missing-lookup : ((k : ℕ) → Property b i key k → ⊥) → lookup (b .props) (b .pool) i key ≡ Missing
-  missing-lookup none = ⊎-elim (λ t. absurd (none (t .0) (t .2 .property))) (λ t. t .0) lookup-cases

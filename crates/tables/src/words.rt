@@ -1,7 +1,7 @@
 // The words of the node and property records.
 ghost use mathlib.Core.Path.{_≡_};
-ghost use Prim.Native.Nat.{_+_, _*_};
-ghost use lib.ListN.{getD};
+ghost use Prim.Native.Nat.{_+_, _*_, _<_};
+ghost use lib.ListN.{length, getD};
 
 // A word as an index.
 pub fn wide(word: u32) -> usize
@@ -10,7 +10,15 @@ pub fn wide(word: u32) -> usize
     word as usize
 }
 
-// The word `field` places after `start`, 0 outside the table.
+// The word `field` places after `start`, inside the table.
+fn word_inside(words: &[u32], start: usize, field: usize) -> usize
+    requires { ⌜ start + field < length (now words) ⌝ }
+    ensures { λ r. ⌜ r ≡ getD (now (words .entry)) (start + field) 0 ⌝ }
+{
+    wide(words[start + field])
+}
+
+// The same, 0 outside the table.
 fn word_after(words: &[u32], start: usize, field: usize) -> usize
     ensures { λ r. ⌜ r ≡ getD (now (words .entry)) (start + field) 0 ⌝ }
 {
@@ -20,7 +28,7 @@ fn word_after(words: &[u32], start: usize, field: usize) -> usize
     if words.len() - start <= field {
         return 0;
     }
-    wide(words[start + field])
+    word_inside(words, start, field)
 }
 
 // A word of node record i, 0 outside the table. A word of a whole record is read at once.
@@ -29,7 +37,7 @@ pub fn node_word(nodes: &[u32], i: usize, field: usize) -> usize
 {
     if i < nodes.len() / 3 {
         if field < 3 {
-            return wide(nodes[3 * i + field]);
+            return word_inside(nodes, 3 * i, field);
         }
     }
     if nodes.len() / 3 < i {

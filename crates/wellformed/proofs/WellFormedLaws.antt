@@ -35,7 +35,7 @@ module _ {b : Board} (wf : WellFormed b) where
   wf-depth i lt = kept-second (node-told b (suc i) lt)
 
   -- property records
-  pub wf-property : (k : ℕ) → k < propCount (b .props) → SoundProperty b k
+  wf-property : (k : ℕ) → k < propCount (b .props) → SoundProperty b k
   wf-property k lt = kept-first (property-told b k lt)
 
   pub wf-prop-node : (k : ℕ) → k < propCount (b .props) → propNode (b .props) k < nodeCount (b .nodes)

@@ -16,8 +16,8 @@ Inv-loop props pool table₀ n k₀ table k = (k ≤ n) × (table ≡ indexedBel
 abbrev μ-loop : tie.MeasureT-loop
 μ-loop props pool table₀ n k₀ table k = n - k
 
-fewer-requires : tie.Need-fewer-requires Inv-loop μ-loop
-fewer-requires c κs = search needs
+at-most-requires : tie.Need-at-most-requires Inv-loop μ-loop
+at-most-requires c κs = search needs
 
 loop-holds : tie.Need-loop-holds Inv-loop μ-loop
 unfolding indexedBelow
@@ -80,7 +80,7 @@ returns : tie.Need-returns Inv-loop μ-loop
 returns c =
     let loop = c .before .loop in
     let call = c .before .before in
-    let all : loop .k ≡ min (propCount (call .before .before .before .args .props .now)) maxProperties = omega (arith, call .fewer .ensures) in
+    let all : loop .k ≡ min (propCount (call .before .before .before .args .props .now)) maxProperties = omega (arith, call .at-most .ensures) in
     rw (loop .inv .1, all)
 
 pub index-properties-spec : {M : Type 1} → statement M
@@ -89,7 +89,7 @@ index-properties-spec =
     (tie.spec
     Inv-loop
     μ-loop
-    fewer-requires
+    at-most-requires
     loop-holds
     mul-at
     mul-wide

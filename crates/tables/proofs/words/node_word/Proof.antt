@@ -6,20 +6,11 @@ use borrow.Author.Needs.{needs}
 use Rattle.tables.proofs.words.node_word.Statement.{statement}
 use Rattle.tables.proofs.words.node_word.Tie as tie
 
-mul-wide : tie.Need-mul-wide
-mul-wide c = search needs
+mul-word-inside : tie.Need-mul-word-inside
+mul-word-inside c = search needs
 
-add-wide : tie.Need-add-wide
-add-wide c = search needs
-
-mul-wide-2 : tie.Need-mul-wide-2
-mul-wide-2 c = search needs
-
-shared-slice-read-wide : tie.Need-shared-slice-read-wide
-shared-slice-read-wide c = search needs
-
-wide-requires : tie.Need-wide-requires
-wide-requires c κs = search needs
+word-inside-requires : tie.Need-word-inside-requires
+word-inside-requires c κs = search needs
 
 returns : tie.Need-returns
 returns c = search needs
@@ -37,16 +28,4 @@ returns-3 : tie.Need-returns-3
 returns-3 c = search needs
 
 pub node-word-spec : {M : Type 1} → statement M
-node-word-spec =
-    tie.close
-    (tie.spec
-    mul-wide
-    add-wide
-    mul-wide-2
-    shared-slice-read-wide
-    wide-requires
-    returns
-    returns-2
-    mul-word-after
-    word-after-requires
-    returns-3)
+node-word-spec = tie.close (tie.spec mul-word-inside word-inside-requires returns returns-2 mul-word-after word-after-requires returns-3)

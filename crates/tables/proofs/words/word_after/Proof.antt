@@ -15,30 +15,11 @@ sub-if2 c = search needs
 returns-2 : tie.Need-returns-2
 returns-2 c = sym (List·getD-eq-default (c .before .before .before .args .words .now) 0 (omega arith))
 
-add-wide : tie.Need-add-wide
-add-wide c = search needs
-
-mul-wide : tie.Need-mul-wide
-mul-wide c = search needs
-
-shared-slice-read-wide : tie.Need-shared-slice-read-wide
-shared-slice-read-wide c = search needs
-
-wide-requires : tie.Need-wide-requires
-wide-requires c κs = search needs
+word-inside-requires : tie.Need-word-inside-requires
+word-inside-requires c κs = search needs
 
 returns-3 : tie.Need-returns-3
 returns-3 c = search needs
 
 pub word-after-spec : {M : Type 1} → statement M
-word-after-spec =
-    tie.close
-    (tie.spec
-    returns
-    sub-if2
-    returns-2
-    add-wide
-    mul-wide
-    shared-slice-read-wide
-    wide-requires
-    returns-3)
+word-after-spec = tie.close (tie.spec returns sub-if2 returns-2 word-inside-requires returns-3)
