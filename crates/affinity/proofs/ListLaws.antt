@@ -104,6 +104,9 @@ module _ (list : List ℕ) where
   mask-accepted a e z = go (eqb (listFault list .number) 0) refl e
     where
       go :
-          (b : Bool) → eqb (listFault list .number) 0 ≡ b → a ≡ cond b accepted refused → (eqb (listFault list .number) 0 ≡ true) × (a .mask ≡ maskOf list)
+          (b : Bool) →
+          eqb (listFault list .number) 0 ≡ b →
+          a ≡ cond b accepted refused →
+          (eqb (listFault list .number) 0 ≡ true) × (a .mask ≡ maskOf list)
       go true f g = (f, ap (λ (x : ListMask). x .mask) g)
       go false f g = absurd (eqb-false (listFault list .number) 0 f (sym (ap (λ (x : ListMask). x .number) g) ∙ z))

@@ -49,7 +49,11 @@ module _ (list : List ℕ) where
   some-one (suc n) k h = go (digit (getD list n 0) k) refl (digit-lt (getD list n 0) k) (some-one n k)
     where
       go :
-          (d : ℕ) → digit (getD list n 0) k ≡ d → d < 2 → (digit (someBelow list n) k ≡ 1 → (i : ℕ) × (i < n) × (digit (getD list i 0) k ≡ 1)) → (i : ℕ) × (i < suc n) × (digit (getD list i 0) k ≡ 1)
+          (d : ℕ) →
+          digit (getD list n 0) k ≡ d →
+          d < 2 →
+          (digit (someBelow list n) k ≡ 1 → (i : ℕ) × (i < n) × (digit (getD list i 0) k ≡ 1)) →
+          (i : ℕ) × (i < suc n) × (digit (getD list i 0) k ≡ 1)
       go zero e lt ih = let t = ih (omega (arith, rw (digit-or (someBelow list n) (getD list n 0) k) at h)) in (t .0, omega (arith, t .1), t .2)
       go (suc zero) e lt ih = (n, omega arith, e)
       go (suc (suc d)) e lt ih = absurd (omega arith)
@@ -59,7 +63,8 @@ module _ (list : List ℕ) where
   some-ge zero k i h = absurd (omega arith)
   some-ge (suc n) k i h =
       let both = digit-or (someBelow list n) (getD list n 0) k in
-      below-suc {P = λ j. digit (getD list j 0) k ≤ digit (bitOr (someBelow list n) (getD list n 0)) k} n (λ j lt. omega (arith, both, some-ge n k j lt)) (omega (arith, both)) i h
+      below-suc {P = λ j. digit (getD list j 0) k ≤ digit (bitOr (someBelow list n) (getD list n 0)) k} n
+      (λ j lt. omega (arith, both, some-ge n k j lt)) (omega (arith, both)) i h
 
   all-zero : (n k : ℕ) → k < 64 → digit (allBelow list n) k ≡ 0 → (i : ℕ) × (i < n) × (digit (getD list i 0) k ≡ 0)
   unfolding allBelow
@@ -67,7 +72,10 @@ module _ (list : List ℕ) where
   all-zero (suc n) k lt h = go (digit (getD list n 0) k) refl (all-zero n k lt)
     where
       go :
-          (d : ℕ) → digit (getD list n 0) k ≡ d → (digit (allBelow list n) k ≡ 0 → (i : ℕ) × (i < n) × (digit (getD list i 0) k ≡ 0)) → (i : ℕ) × (i < suc n) × (digit (getD list i 0) k ≡ 0)
+          (d : ℕ) →
+          digit (getD list n 0) k ≡ d →
+          (digit (allBelow list n) k ≡ 0 → (i : ℕ) × (i < n) × (digit (getD list i 0) k ≡ 0)) →
+          (i : ℕ) × (i < suc n) × (digit (getD list i 0) k ≡ 0)
       go zero e ih = (n, omega arith, e)
       go (suc d) e ih = let t = ih (omega (arith, rw (digit-and (allBelow list n) (getD list n 0) k) at h)) in (t .0, omega (arith, t .1), t .2)
 
@@ -76,7 +84,8 @@ module _ (list : List ℕ) where
   all-le zero k i h = absurd (omega arith)
   all-le (suc n) k i h =
       let both = digit-and (allBelow list n) (getD list n 0) k in
-      below-suc {P = λ j. digit (bitAnd (allBelow list n) (getD list n 0)) k ≤ digit (getD list j 0) k} n (λ j lt. omega (arith, both, all-le n k j lt)) (omega (arith, both)) i h
+      below-suc {P = λ j. digit (bitAnd (allBelow list n) (getD list n 0)) k ≤ digit (getD list j 0) k} n
+      (λ j lt. omega (arith, both, all-le n k j lt)) (omega (arith, both)) i h
 
   -- the test for two that differ
   abbrev apart : ℕ → ℕ → ℕ → Bool
@@ -95,7 +104,14 @@ module _ (list : List ℕ) where
   unfolding differing
   one-differ k h = go (anyBelow (someApart k) (length list)) refl h
     where
-      pair : (i j : ℕ) → i < length list → j < length list → (b : Bool) → eqb (digit (getD list i 0) k) (digit (getD list j 0) k) ≡ b → cond b false true ≡ true → Differ list k
+      pair :
+          (i j : ℕ) →
+          i < length list →
+          j < length list →
+          (b : Bool) →
+          eqb (digit (getD list i 0) k) (digit (getD list j 0) k) ≡ b →
+          cond b false true ≡ true →
+          Differ list k
       pair i j p q true e g = true-false g refl
       pair i j p q false e g = record { one = i; other = j; one-in = p; other-in = q; differs = eqb-false _ _ e }
 
@@ -152,7 +168,8 @@ module _ (list : List ℕ) where
       both e f =
           let one = some-one (length list) k e in
           let other = all-zero (length list) k lt f in
-          differ-one k (record { one = one .0; other = other .0; one-in = one .1; other-in = other .1; differs = λ q. omega (arith, one .2, other .2, q) })
+          differ-one k
+          (record { one = one .0; other = other .0; one-in = one .1; other-in = other .1; differs = λ q. omega (arith, one .2, other .2, q) })
 
       equal : (digit some k ≡ 0) ⊎ (digit all k ≡ 1) → (i : ℕ) → i < length list → digit (getD list i 0) k ≡ digit all k
       equal h i p =
@@ -197,7 +214,8 @@ module _ (list : List ℕ) where
         digit-lt some k,
       ))
 
-  pub mask-same : (k i j : ℕ) → k < 64 → digit (maskOf list) k ≡ 0 → i < length list → j < length list → digit (getD list i 0) k ≡ digit (getD list j 0) k
+  pub mask-same :
+      (k i j : ℕ) → k < 64 → digit (maskOf list) k ≡ 0 → i < length list → j < length list → digit (getD list i 0) k ≡ digit (getD list j 0) k
   mask-same k i j lt z p q = go (eqb (digit (getD list i 0) k) (digit (getD list j 0) k)) refl
     where
       go : (b : Bool) → eqb (digit (getD list i 0) k) (digit (getD list j 0) k) ≡ b → digit (getD list i 0) k ≡ digit (getD list j 0) k

@@ -81,7 +81,8 @@ max-one :
 max-one f zero h z = omega (arith, z 1 (lit< tt) (λ e. omega arith), z 2 (lit< tt) (λ e. omega arith), z 3 (lit< tt) (λ e. omega arith))
 max-one f (suc zero) h z = omega (arith, z 0 (lit< tt) (λ e. omega arith), z 2 (lit< tt) (λ e. omega arith), z 3 (lit< tt) (λ e. omega arith))
 max-one f (suc (suc zero)) h z = omega (arith, z 0 (lit< tt) (λ e. omega arith), z 1 (lit< tt) (λ e. omega arith), z 3 (lit< tt) (λ e. omega arith))
-max-one f (suc (suc (suc zero))) h z = omega (arith, z 0 (lit< tt) (λ e. omega arith), z 1 (lit< tt) (λ e. omega arith), z 2 (lit< tt) (λ e. omega arith))
+max-one f (suc (suc (suc zero))) h z =
+    omega (arith, z 0 (lit< tt) (λ e. omega arith), z 1 (lit< tt) (λ e. omega arith), z 2 (lit< tt) (λ e. omega arith))
 max-one f (suc (suc (suc (suc l)))) h z = absurd (omega arith)
 
 shifts-small : (m : ℕ) → below64 (shiftsOf m) ≡ shiftsOf m
@@ -101,7 +102,11 @@ module _ (m a : ℕ) where
   slot-max k = simp digit-or
 
   slot-digit :
-      (l : ℕ) → l < 4 → (j : ℕ) → j < widthOf (levelPart m l) → digit (slotOf (hashOfMask m) a) (bitsBelow m l + j) ≡ digit (bitAnd a m) (beginOf l + lowOf (levelPart m l) + j)
+      (l : ℕ) →
+      l < 4 →
+      (j : ℕ) →
+      j < widthOf (levelPart m l) →
+      digit (slotOf (hashOfMask m) a) (bitsBelow m l + j) ≡ digit (bitAnd a m) (beginOf l + lowOf (levelPart m l) + j)
   unfolding sumBelow
   slot-digit l h j lt = slot-max (bitsBelow m l + j) ∙ max-one (levelDigit (bitsBelow m l + j)) l h other ∙ level-in m a l h j lt
     where
@@ -114,7 +119,9 @@ module _ (m a : ℕ) where
 
   -- a slot has no more digits than the widths add up to
   pub slot-lt : slotOf (hashOfMask m) a < 2 ^ bitsBelow m 4
-  slot-lt = digit-bound (slotOf (hashOfMask m) a) (bitsBelow m 4) (λ j. slot-max (bitsBelow m 4 + j) ∙ max-one (levelDigit (bitsBelow m 4 + j)) 0 (lit< tt) (λ i h _. above j i h) ∙ above j 0 (lit< tt))
+  slot-lt =
+      digit-bound (slotOf (hashOfMask m) a) (bitsBelow m 4)
+      (λ j. slot-max (bitsBelow m 4 + j) ∙ max-one (levelDigit (bitsBelow m 4 + j)) 0 (lit< tt) (λ i h _. above j i h) ∙ above j 0 (lit< tt))
     where
       above : (j i : ℕ) → i < 4 → levelDigit (bitsBelow m 4 + j) i ≡ 0
       above j i h = level-out m a i h (bitsBelow m 4 + j) (inr (omega (arith, bits-mono m (suc i) 4 h)))

@@ -30,7 +30,10 @@ module _ (l start : List ℕ) (len : ℕ) where
       let split : len ≡ length start + (len - length start) = omega arith in
       record {
         rest = take (len - length start) (drop (length start) l);
-        whole = ap (λ (n : ℕ). take n l) split ∙ take-add (length start) (len - length start) l ∙ ap (λ (s : List ℕ). s ++ take (len - length start) (drop (length start) l)) e;
+        whole =
+            ap (λ (n : ℕ). take n l) split
+            ∙ take-add (length start) (len - length start) l
+            ∙ ap (λ (s : List ℕ). s ++ take (len - length start) (drop (length start) l)) e;
       }
 
   begins-starts : Begins (take len l) start → (length start ≤ len) × (take (length start) l ≡ start)

@@ -156,7 +156,13 @@ module _ {b : Board} (sized : WordSized b) (well : WellFormed b) where
       go (isCpu (b .nodes) (b .pool) i) (cpu-test well i) (phandle-says sized well i) _
       (λ h p z. seen-decides (isCpu (b .nodes) (b .pool)) (phandleReadings b) 17 i none (λ j. same h p z j))
     where
-      same : (h : ℕ) → Phandle b i h → phandleReadings b i .number ≡ 0 → (j : ℕ) → phandleReadings b j .number ≡ 0 → Decides (eqb (phandleReadings b j .value) (phandleReadings b i .value)) (Phandle b j h)
+      same :
+          (h : ℕ) →
+          Phandle b i h →
+          phandleReadings b i .number ≡ 0 →
+          (j : ℕ) →
+          phandleReadings b j .number ≡ 0 →
+          Decides (eqb (phandleReadings b j .value) (phandleReadings b i .value)) (Phandle b j h)
       same h p zi j zj =
           let own = phandle-unique well (phandle-read sized well i zi) p in
           decides-as (eq-decides (phandleReadings b j .value) (phandleReadings b i .value))

@@ -129,7 +129,14 @@ module _ {b : Board} (sized : WordSized b) (well : WellFormed b) where
   cells-say = go (cell-says sized well 0 addressCellsKey)
     where
       refuse :
-          {w : ℕ} → HasValue b 0 addressCellsKey (cellBytes w) → w < 2 ^ 32 → (w ≡ 1 → ⊥) → (w ≡ 2 → b .width ≡ 64 → ⊥) → (n : ℕ) → AddressCells b n → ⊥
+          {w : ℕ} →
+          HasValue b 0 addressCellsKey (cellBytes w) →
+          w < 2 ^ 32 →
+          (w ≡ 1 → ⊥) →
+          (w ≡ 2 → b .width ≡ 64 → ⊥) →
+          (n : ℕ) →
+          AddressCells b n →
+          ⊥
       refuse {w} h lt one two n a =
           let same = cell-bytes-apart w n lt (allowed-lt (a .allowed)) (value-unique well h (a .value)) in
           ⊎-elim (λ e. one (same ∙ e)) (λ t. two (same ∙ t .0) (t .1)) (cells-cases (a .allowed))
@@ -226,7 +233,8 @@ module _ {b : Board} (sized : WordSized b) (well : WellFormed b) (i : ℕ) where
           PhandleSays b i (numberOr 17 (cond t Invalid (cond s Invalid (Number w))))
       pick {w} v lt true e s f = PhandleSays.none (λ h p. p .not-zero (sym (same v lt p) ∙ eqb-true w 0 e))
       pick {w} v lt false e true f = PhandleSays.none (λ h p. p .not-ones (sym (same v lt p) ∙ eqb-true w 0xFFFFFFFF f))
-      pick {w} v lt false e false f = PhandleSays.phandle (record { value = v; word = lt; not-zero = eqb-false w 0 e; not-ones = eqb-false w 0xFFFFFFFF f })
+      pick {w} v lt false e false f =
+          PhandleSays.phandle (record { value = v; word = lt; not-zero = eqb-false w 0 e; not-ones = eqb-false w 0xFFFFFFFF f })
 
       go : {x : Value} → ValueSays b One i phandleKey x → PhandleSays b i (numberOr 17 (phandleIn x))
       go (ValueSays.number {n = w} v lt) = pick v lt (eqb w 0) refl (eqb w 0xFFFFFFFF) refl

@@ -50,7 +50,9 @@ module _ (p : ℕ → Bool) (r : ℕ → CpuReading) (rule n : ℕ) where
   pub first-gathered : firstRecord r rule (listBelow p n) ≡ firstFault (gatherFault p r rule) n
   unfolding firstRecord
   first-gathered =
-      ap (faultOfMember (listBelow p n)) (first-same (listedFault r rule (listBelow p n)) (λ k. ownFault k (getD (listBelow p n) k 0)) (length (listBelow p n)) (λ k lt _. listed-own k lt))
+      ap (faultOfMember (listBelow p n))
+      (first-same (listedFault r rule (listBelow p n)) (λ k. ownFault k (getD (listBelow p n) k 0)) (length (listBelow p n))
+      (λ k lt _. listed-own k lt))
       ∙ first-listed p ownFault n
       ∙ first-same (λ i. cond (p i) (ownFault (countBelow p i) i) 0) (gatherFault p r rule) n (λ i _ _. own-gathered i)
 

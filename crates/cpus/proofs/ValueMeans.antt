@@ -27,19 +27,26 @@ pub range-length : (pool : List ℕ) (offset len : ℕ) → Inside pool offset l
 range-length pool offset len inside = simp (length-take, length-drop) (omega arith)
 
 -- the test of a value's length
-pub sized-test : (props pool : List ℕ) (len k : ℕ) → Decides (valueSized props pool len k) ((valueLength props k ≡ len) × (valueOffset props k + len ≤ length pool))
+pub sized-test :
+    (props pool : List ℕ) (len k : ℕ) →
+    Decides (valueSized props pool len k) ((valueLength props k ≡ len) × (valueOffset props k + len ≤ length pool))
 sized-test props pool len k = both-decides (eq-decides (valueLength props k) len) (le-decides (valueOffset props k + len) (length pool))
 
 module _ {b : Board} (well : WellFormed b) {i : ℕ} {key : List ℕ} where
   -- a record has one value of a property: that of its only property record of that name
-  value-of : {k : ℕ} {v : List ℕ} → Property b i key k → HasValue b i key v → Inside (b .pool) (valueOffset (b .props) k) (valueLength (b .props) k) × (propValue b k ≡ v)
+  value-of :
+      {k : ℕ} {v : List ℕ} →
+      Property b i key k →
+      HasValue b i key v →
+      Inside (b .pool) (valueOffset (b .props) k) (valueLength (b .props) k) × (propValue b k ≡ v)
   value-of p h = let e = wf-unique well (h .property) p in (rw e at (h .range), rw e at (h .bytes))
 
   pub value-unique : {v w : List ℕ} → HasValue b i key v → HasValue b i key w → v ≡ w
   value-unique = wf-value-unique well
 
   -- a value of a length is read where it lies
-  value-sized : {k : ℕ} {v : List ℕ} (len : ℕ) → Property b i key k → HasValue b i key v → length v ≡ len → valueSized (b .props) (b .pool) len k ≡ true
+  value-sized :
+      {k : ℕ} {v : List ℕ} (len : ℕ) → Property b i key k → HasValue b i key v → length v ≡ len → valueSized (b .props) (b .pool) len k ≡ true
   value-sized {k} {v} len p h e =
       let t = value-of p h in
       let inside = t .0 in

@@ -1,4 +1,5 @@
-// What every other crate uses: general laws, the numbers and the limits of the rules, what is told of a broken one, the search of a list, and a length cut to the room.
+// What every other crate uses: general laws, the numbers and the limits of the rules, what is told of a broken one, the search of a list,
+// and a length cut to the room.
 mod cut;
 pub mod limits;
 pub mod rules;

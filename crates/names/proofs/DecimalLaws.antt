@@ -23,7 +23,13 @@ not-is {A} {n} h = let z : _≡_ {A = ℕ} 0 1 = cc in absurd (omega arith)
 digit-in : (d n : ℕ) (x : Number) → cond (ltb d 48) NotDecimal (cond (ltb 57 d) NotDecimal x) ≡ Decimal n → (48 ≤ d) × (d ≤ 57) × (x ≡ Decimal n)
 digit-in d n x h = go (ltb d 48) refl (ltb 57 d) refl h
   where
-    go : (a : Bool) → ltb d 48 ≡ a → (b : Bool) → ltb 57 d ≡ b → cond a NotDecimal (cond b NotDecimal x) ≡ Decimal n → (48 ≤ d) × (d ≤ 57) × (x ≡ Decimal n)
+    go :
+        (a : Bool) →
+        ltb d 48 ≡ a →
+        (b : Bool) →
+        ltb 57 d ≡ b →
+        cond a NotDecimal (cond b NotDecimal x) ≡ Decimal n →
+        (48 ≤ d) × (d ≤ 57) × (x ≡ Decimal n)
     go true p b q g = not-is g
     go false p true q g = not-is g
     go false p false q g = (ltb-false d 48 p, ltb-false 57 d q, g)
@@ -64,16 +70,24 @@ decimal-read =
     rw append-assoc (ih ((48 + n % 10) ∷ rest)) ∙ digit-read (n / 10) (n % 10) rest (omega arith) ∙ ap (λ (v : ℕ). digitsFrom v rest) (omega arith))
 
 -- there is a digit, there are no more than asked for, and the first is not zero but in 0 itself
-decimal-shape : (k n : ℕ) → n < 10 ^ suc k → (0 < length (decimalIn (suc k) n)) × (length (decimalIn (suc k) n) ≤ suc k) × (0 < n → getD (decimalIn (suc k) n) 0 0 ≡ 48 → ⊥)
+decimal-shape :
+    (k n : ℕ) →
+    n < 10 ^ suc k →
+    (0 < length (decimalIn (suc k) n)) × (length (decimalIn (suc k) n) ≤ suc k) × (0 < n → getD (decimalIn (suc k) n) 0 0 ≡ 48 → ⊥)
 decimal-shape =
     decimal-ind (λ (k n : ℕ) (ds : List ℕ). (0 < length ds) × (length ds ≤ k) × (0 < n → getD ds 0 0 ≡ 48 → ⊥))
     (λ k n h. (omega arith, omega arith, λ p e. omega arith))
-    (λ k n ds h ih. (simp length-append (omega arith), simp length-append (omega arith), λ p e. ih .2 (omega arith) (sym (List·getD-append ds ((48 + n % 10) ∷ []) 0 0 (ih .0)) ∙ e)))
+    (λ k n ds h ih. (
+      simp length-append (omega arith),
+      simp length-append (omega arith),
+      λ p e. ih .2 (omega arith) (sym (List·getD-append ds ((48 + n % 10) ∷ []) 0 0 (ih .0)) ∙ e),
+    ))
 
 -- digits of such a shape are read one after the other
 number-digits : (ds : List ℕ) → 0 < length ds → length ds ≤ 4 → (getD ds 0 0 ≡ 48 → ⊥) → numberOf ds ≡ digitsFrom 0 ds
 unfolding numberOf
-number-digits ds some few first = rw (ne-eqb (length ds) 0 (omega arith), le-ltb 4 (length ds) few, ne-eqb (getD ds 0 0) 48 first) (same (ltb 1 (length ds)))
+number-digits ds some few first =
+    rw (ne-eqb (length ds) 0 (omega arith), le-ltb 4 (length ds) few, ne-eqb (getD ds 0 0) 48 first) (same (ltb 1 (length ds)))
   where
     same : (b : Bool) → cond (cond b false false) NotDecimal (digitsFrom 0 ds) ≡ digitsFrom 0 ds
     same true = refl
@@ -91,7 +105,8 @@ number-decimal zero h = refl
 number-decimal (suc n) h = number-positive (suc n) (omega arith) h
 
 -- the tests that digits pass
-number-tests : (ds : List ℕ) (n : ℕ) → numberOf ds ≡ Decimal n → (length ds ≤ 4) × (1 < length ds → getD ds 0 0 ≡ 48 → ⊥) × (digitsFrom 0 ds ≡ Decimal n)
+number-tests :
+    (ds : List ℕ) (n : ℕ) → numberOf ds ≡ Decimal n → (length ds ≤ 4) × (1 < length ds → getD ds 0 0 ≡ 48 → ⊥) × (digitsFrom 0 ds ≡ Decimal n)
 unfolding numberOf
 number-tests ds n h = go (eqb (length ds) 0) (ltb 4 (length ds)) refl (ltb 1 (length ds)) refl (eqb (getD ds 0 0) 48) refl h
   where

@@ -38,7 +38,8 @@ starts-end word name i e = rw (e, drop-length word)
 pub digits-step :
     (ds : List ℕ) (v i : ℕ) →
     i < length ds →
-    digitsFrom v (drop i ds) ≡ cond (ltb (getD ds i 0) 48) NotDecimal (cond (ltb 57 (getD ds i 0)) NotDecimal (digitsFrom (v * 10 + (getD ds i 0 - 48)) (drop (i + 1) ds)))
+    digitsFrom v (drop i ds)
+    ≡ cond (ltb (getD ds i 0) 48) NotDecimal (cond (ltb 57 (getD ds i 0)) NotDecimal (digitsFrom (v * 10 + (getD ds i 0 - 48)) (drop (i + 1) ds)))
 unfolding digitsFrom
 digits-step ds v i h = rw (add-one, drop-cons ds i 0 h)
 

@@ -73,4 +73,5 @@ module _ (pool : List ℕ) (offset len : ℕ) where
   key-is Cpu = is-cpu (is regKey) (is cpuKey) (is phandleKey) (is deviceTypeKey) (apart regKey cpuKey refl)
   key-is Phandle = is-phandle (is regKey) (is cpuKey) (is phandleKey) (is deviceTypeKey) (apart regKey phandleKey refl) (apart cpuKey phandleKey refl)
   key-is DeviceType =
-      is-device-type (is regKey) (is cpuKey) (is phandleKey) (is deviceTypeKey) (apart regKey deviceTypeKey refl) (apart cpuKey deviceTypeKey refl) (apart phandleKey deviceTypeKey refl)
+      is-device-type (is regKey) (is cpuKey) (is phandleKey) (is deviceTypeKey) (apart regKey deviceTypeKey refl) (apart cpuKey deviceTypeKey refl)
+      (apart phandleKey deviceTypeKey refl)

@@ -26,17 +26,20 @@ module _ (pool : List ℕ) (offset : ℕ) where
     pub phandle-cells :
         cond (eqb (cellAt pool offset) 0x7068616e) (eqb (cellAt pool (offset + 3)) 0x6e646c65) false ≡ rangeIs pool offset 7 phandleKey
     phandle-cells =
-        two-cells pool offset 3 0x7068616e 0x6e646c65 phandleKey bytes (omega arith) (omega arith) (omega arith) (λ e. omega arith) (λ e. omega arith) refl refl refl
+        two-cells pool offset 3 0x7068616e 0x6e646c65 phandleKey bytes (omega arith) (omega arith) (omega arith) (λ e. omega arith) (λ e. omega arith)
+        refl refl refl
 
     pub device-cells :
-        cond (eqb (cellAt pool offset) 0x64657669) (cond (eqb (cellAt pool (offset + 4)) 0x63655f74) (eqb (cellAt pool (offset + 7)) 0x74797065) false) false
+        cond (eqb (cellAt pool offset) 0x64657669)
+        (cond (eqb (cellAt pool (offset + 4)) 0x63655f74) (eqb (cellAt pool (offset + 7)) 0x74797065) false) false
         ≡ rangeIs pool offset 11 deviceTypeKey
     device-cells =
         let e : offset + 4 + 3 ≡ offset + 7 = omega arith in
         ap₂ (λ (x y : Bool). cond x y false)
         (cell-is pool offset 0x64657669 bytes (omega arith) (λ e. omega arith))
         (ap (λ (n : ℕ). cond (eqb (cellAt pool (offset + 4)) 0x63655f74) (eqb (cellAt pool n) 0x74797065) false) (sym e)
-        ∙ two-cells pool (offset + 4) 3 0x63655f74 0x74797065 (drop 4 deviceTypeKey) bytes (omega arith) (omega arith) (omega arith) (λ e. omega arith) (λ e. omega arith) refl refl refl)
+        ∙ two-cells pool (offset + 4) 3 0x63655f74 0x74797065 (drop 4 deviceTypeKey) bytes (omega arith) (omega arith) (omega arith)
+        (λ e. omega arith) (λ e. omega arith) refl refl refl)
         ∙ two-ranges pool offset 4 7 4 deviceTypeKey (omega arith) (omega arith) refl
 
     -- a name of three bytes, read as one number
@@ -45,7 +48,8 @@ module _ (pool : List ℕ) (offset : ℕ) where
       three-bytes =
           let e : offset + 1 ≡ suc offset = omega arith in
           let f : offset + 2 ≡ suc (suc offset) = omega arith in
-          rw (e, f, drop-cons pool offset 0 (omega arith), drop-cons pool (suc offset) 0 (omega arith), drop-cons pool (suc (suc offset)) 0 (omega arith))
+          rw (e, f, drop-cons pool offset 0 (omega arith), drop-cons pool (suc offset) 0 (omega arith))
+          (rw (drop-cons pool (suc (suc offset)) 0 (omega arith)))
 
       abbrev three : ℕ
       three = getD pool offset 0 * 65536 + getD pool (offset + 1) 0 * 256 + getD pool (offset + 2) 0
@@ -70,24 +74,42 @@ module _ (pool : List ℕ) (offset : ℕ) where
       pub key-short : shortKey three ≡ keyOf pool offset 3
       unfolding keyOf
       key-short =
-          rw (three-is 114 101 103 (omega arith) (omega arith) (omega arith), three-is 99 112 117 (omega arith) (omega arith) (omega arith), ← other-length pool offset 3 phandleKey (λ e. omega arith), ← other-length pool offset 3 deviceTypeKey (λ e. omega arith))
+          rw (
+            three-is 114 101 103 (omega arith) (omega arith) (omega arith),
+            three-is 99 112 117 (omega arith) (omega arith) (omega arith),
+            ← other-length pool offset 3 phandleKey (λ e. omega arith),
+            ← other-length pool offset 3 deviceTypeKey (λ e. omega arith),
+          )
 
   -- names of the other lengths
   pub key-seven : cond (rangeIs pool offset 7 phandleKey) 2 4 ≡ keyOf pool offset 7
   unfolding keyOf
   key-seven =
-      rw (← other-length pool offset 7 regKey (λ e. omega arith), ← other-length pool offset 7 cpuKey (λ e. omega arith), ← other-length pool offset 7 deviceTypeKey (λ e. omega arith))
+      rw (
+        ← other-length pool offset 7 regKey (λ e. omega arith),
+        ← other-length pool offset 7 cpuKey (λ e. omega arith),
+        ← other-length pool offset 7 deviceTypeKey (λ e. omega arith),
+      )
 
   pub key-eleven : cond (rangeIs pool offset 11 deviceTypeKey) 3 4 ≡ keyOf pool offset 11
   unfolding keyOf
   key-eleven =
-      rw (← other-length pool offset 11 regKey (λ e. omega arith), ← other-length pool offset 11 cpuKey (λ e. omega arith), ← other-length pool offset 11 phandleKey (λ e. omega arith))
+      rw (
+        ← other-length pool offset 11 regKey (λ e. omega arith),
+        ← other-length pool offset 11 cpuKey (λ e. omega arith),
+        ← other-length pool offset 11 phandleKey (λ e. omega arith),
+      )
 
   module _ (len : ℕ) where
     pub key-length : (len ≡ 3 → ⊥) → (len ≡ 7 → ⊥) → (len ≡ 11 → ⊥) → 4 ≡ keyOf pool offset len
     unfolding keyOf
     key-length three seven eleven =
-        rw (← other-length pool offset len regKey three, ← other-length pool offset len cpuKey three, ← other-length pool offset len phandleKey seven, ← other-length pool offset len deviceTypeKey eleven)
+        rw (
+          ← other-length pool offset len regKey three,
+          ← other-length pool offset len cpuKey three,
+          ← other-length pool offset len phandleKey seven,
+          ← other-length pool offset len deviceTypeKey eleven,
+        )
 
     outside : (name : List ℕ) → length pool < offset + len → rangeIs pool offset len name ≡ false
     unfolding rangeIs

@@ -28,7 +28,8 @@ unfolding indexedBelow notedKey
 keys-length table props pool zero = refl
 keys-length table props pool (suc k) =
     let before = keys-length table props pool k in
-    length-cond (ltb (propNode props k) maxNodes) _ _ _ (length-cond (ltb (keyOf pool (keyOffset props k) (keyLength props k)) 4) _ _ _ (noted-length _ _ k ∙ before) before) before
+    length-cond (ltb (propNode props k) maxNodes) _ _ _
+    (length-cond (ltb (keyOf pool (keyOffset props k) (keyLength props k)) 4) _ _ _ (noted-length _ _ k ∙ before) before) before
 
 -- the word at a place where property k is noted
 abbrev pub firstWord : ℕ → ℕ → ℕ
@@ -65,7 +66,10 @@ module _ (table pool : List ℕ) (node offset len k i n : ℕ) (size : length ta
   unfolding notedKey
   noted-word = rw (lt-ltb node maxNodes low) (go (cond (eqb node i) (eqb key n) false) refl)
     where
-      go : (t : Bool) → cond (eqb node i) (eqb key n) false ≡ t → getD (cond (ltb key 4) (noted table (4 * node + key) k) table) place 0 ≡ cond t (firstWord (getD table place 0) k) (getD table place 0)
+      go :
+          (t : Bool) →
+          cond (eqb node i) (eqb key n) false ≡ t →
+          getD (cond (ltb key 4) (noted table (4 * node + key) k) table) place 0 ≡ cond t (firstWord (getD table place 0) k) (getD table place 0)
       go true e =
           let b = both-true (eqb node i) e in
           let same-node = eqb-true node i (b .0) in

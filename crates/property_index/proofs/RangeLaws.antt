@@ -34,7 +34,8 @@ module _ (list name : List ℕ) (m n s : ℕ) (meet : s ≤ m) (size : length na
   parted : m ≤ n + s → s ≤ length list → take (n + s) list ≡ name → (take m list ≡ take m name) × (take n (drop s list) ≡ drop s name)
   parted le fits whole = (
     sym (take-take m (n + s) list le) ∙ ap (take m) whole,
-    sym (drop-at (take s list) (take n (drop s list)) s (length-take-le s list fits)) ∙ ap (drop s) (sym (take-add s n list) ∙ ap (λ (k : ℕ). take k list) (add-comm s n) ∙ whole),
+    sym (drop-at (take s list) (take n (drop s list)) s (length-take-le s list fits))
+        ∙ ap (drop s) (sym (take-add s n list) ∙ ap (λ (k : ℕ). take k list) (add-comm s n) ∙ whole),
   )
 
 -- a name of n + s bytes is tested by its first m and its last n
@@ -45,7 +46,8 @@ pub two-ranges :
     length name ≡ n + s →
     cond (rangeIs pool offset m (take m name)) (rangeIs pool (offset + s) n (drop s name)) false ≡ rangeIs pool offset (n + s) name
 two-ranges pool offset m n s name meet le size =
-    same-test (both-decides (range-decides pool offset m (take m name)) (range-decides pool (offset + s) n (drop s name))) (range-decides pool offset (n + s) name)
+    same-test (both-decides (range-decides pool offset m (take m name)) (range-decides pool (offset + s) n (drop s name)))
+    (range-decides pool offset (n + s) name)
     (λ h. (omega (arith, h .1 .0), joined rest name m n s meet size (h .0 .1) (ap (take n) after ∙ h .1 .1)))
     (λ h.
     let t = parted rest name m n s meet size le (rw (length-drop offset pool) (omega (arith, h .0))) (h .1) in

@@ -24,7 +24,10 @@ module _ (props pool : List ℕ) (node : ℕ) (key : List ℕ) where
   unfolding isProperty
   other-property j len size t f = go (eqb (propNode props j) node) (sym t ∙ f)
     where
-      go : (x : Bool) → cond x (eqb (keyLength props j) len) false ≡ false → cond x (rangeIs pool (keyOffset props j) (keyLength props j) key) false ≡ false
+      go :
+          (x : Bool) →
+          cond x (eqb (keyLength props j) len) false ≡ false →
+          cond x (rangeIs pool (keyOffset props j) (keyLength props j) key) false ≡ false
       go true h = sym (other-length pool (keyOffset props j) (keyLength props j) key (λ q. eqb-false (keyLength props j) len h (q ∙ sym size)))
       go false h = refl
 
@@ -42,5 +45,6 @@ module _ (props pool : List ℕ) (node : ℕ) (key : List ℕ) where
       let start : 5 * (at / 5) ≡ at = omega arith in
       let is = both-true (eqb (propNode props (at / 5)) node) (sym t ∙ y) in
       q
-      ∙ ap₂ (λ (o n : ℕ). rangeIs pool o n key) (w ∙ ap (λ (n : ℕ). getD props (n + 1) 0) (sym start)) (sym (eqb-true (keyLength props (at / 5)) len (is .1)))
+      ∙ ap₂ (λ (o n : ℕ). rangeIs pool o n key) (w ∙ ap (λ (n : ℕ). getD props (n + 1) 0) (sym start))
+      (sym (eqb-true (keyLength props (at / 5)) len (is .1)))
       ∙ rw (is .0)

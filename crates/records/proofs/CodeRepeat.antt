@@ -54,12 +54,19 @@ module _ (count : ℕ) (props pool : List ℕ) where
   fault-seven k h = rw h
 
   pub fault-eight :
-      (k at : ℕ) → soundProperty count props (length pool) k ≡ true → at < 5 * k → sameProperty props pool k (at / 5) ≡ true → 8 ≡ propertyFault count props pool k
+      (k at : ℕ) →
+      soundProperty count props (length pool) k ≡ true →
+      at < 5 * k →
+      sameProperty props pool k (at / 5) ≡ true →
+      8 ≡ propertyFault count props pool k
   unfolding propertyFault
   fault-eight k at h lt e = rw (h, any-at (sameProperty props pool k) (at / 5) k (omega arith) e)
 
   pub fault-none :
-      (k : ℕ) → soundProperty count props (length pool) k ≡ true → anyBelow (sameProperty props pool k) k ≡ false → 0 ≡ propertyFault count props pool k
+      (k : ℕ) →
+      soundProperty count props (length pool) k ≡ true →
+      anyBelow (sameProperty props pool k) k ≡ false →
+      0 ≡ propertyFault count props pool k
   unfolding propertyFault
   fault-none k h e = rw (h, e)
 

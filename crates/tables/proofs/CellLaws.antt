@@ -66,7 +66,8 @@ module _ (pool : List ℕ) (at : ℕ) (inside : at + 4 ≤ length pool) where
       let e : at + 1 ≡ suc at = omega arith in
       let f : at + 2 ≡ suc (suc at) = omega arith in
       let g : at + 3 ≡ suc (suc (suc at)) = omega arith in
-      rw (e, f, g, drop-cons pool at 0 (omega arith), drop-cons pool (suc at) 0 (omega arith), drop-cons pool (suc (suc at)) 0 (omega arith), drop-cons pool (suc (suc (suc at))) 0 (omega arith))
+      rw (e, f, g, drop-cons pool at 0 (omega arith), drop-cons pool (suc at) 0 (omega arith))
+      (rw (drop-cons pool (suc (suc at)) 0 (omega arith), drop-cons pool (suc (suc (suc at))) 0 (omega arith)))
 
   the-cell : cellAt pool at ≡ join (getD pool at 0) (getD pool (at + 1) 0) (getD pool (at + 2) 0) (getD pool (at + 3) 0)
   unfolding cellAt
@@ -88,7 +89,7 @@ module _ (pool : List ℕ) (at : ℕ) (inside : at + 4 ≤ length pool) where
     -- the bytes that stand there are those of the cell read
     pub cell-bytes : range pool at 4 ≡ cellBytes (cellAt pool at)
     cell-bytes =
-        four-bytes ∙ rw the-cell (sym (bytes-join (getD pool at 0) (getD pool (at + 1) 0) (getD pool (at + 2) 0) (getD pool (at + 3) 0) (byte at) (byte (at + 1)) (byte (at + 2)) (byte (at + 3))))
+        four-bytes ∙ rw the-cell (sym (bytes-join _ _ _ _ (byte at) (byte (at + 1)) (byte (at + 2)) (byte (at + 3))))
 
 -- a cell is below 2 ^ 32, also where it leaves the pool
 pub cell-lt : (pool : List ℕ) (at : ℕ) → ((i : ℕ) → getD pool i 0 < 256) → cellAt pool at < 2 ^ 32
@@ -120,5 +121,7 @@ cell-is pool at w bytes small some = go (leb (at + 4) (length pool)) refl
         same-test inside true q =
             let holds : range pool at 4 ≡ cellBytes w = cell-bytes pool at inside bytes ∙ ap cellBytes (eqb-true (cellAt pool at) w q) in
             rw holds (sym (same-refl (cellBytes w)))
-        same-test inside false q = sym (false-unless _ (λ h. eqb-false (cellAt pool at) w q (cell-back pool at inside w small (same-equal (range pool at 4) (cellBytes w) h))))
+        same-test inside false q =
+            sym
+            (false-unless _ (λ h. eqb-false (cellAt pool at) w q (cell-back pool at inside w small (same-equal (range pool at 4) (cellBytes w) h))))
     go false e = rw (cell-outside pool at e) (ne-eqb 0 w (λ z. some (sym z)))

@@ -54,7 +54,8 @@ byte-of :
 byte-of e hq hr hs hy hz hw = (omega arith, omega arith, omega arith, omega arith)
 
 module _ (a b : List ℕ) (i : ℕ) (in-a : i + 4 ≤ length a) (in-b : i + 4 ≤ length b) where
-  step : (j k : ℕ) → j + 1 ≡ k → j < length a → j < length b → getD a j 0 ≡ getD b j 0 → sameList (drop j a) (drop j b) ≡ sameList (drop k a) (drop k b)
+  step :
+      (j k : ℕ) → j + 1 ≡ k → j < length a → j < length b → getD a j 0 ≡ getD b j 0 → sameList (drop j a) (drop j b) ≡ sameList (drop k a) (drop k b)
   step j k next la lb e = same-step a b j la lb ∙ rw (eq-eqb _ _ e) (ap (λ (n : ℕ). sameList (drop n a) (drop n b)) next)
 
   -- where two cells are equal the next four bytes are

@@ -18,8 +18,13 @@ child-test nodes p i =
     (λ c. (c .inside, (c .word, c .earlier)))
 
 -- the test of a range, and of one that lies inside the pool
-pub range-decides : (pool : List ℕ) (offset len : ℕ) (bytes : List ℕ) → Decides (rangeIs pool offset len bytes) (Inside pool offset len × (range pool offset len ≡ bytes))
+pub range-decides :
+    (pool : List ℕ) (offset len : ℕ) (bytes : List ℕ) →
+    Decides (rangeIs pool offset len bytes) (Inside pool offset len × (range pool offset len ≡ bytes))
 range-decides pool offset len bytes = (range-is-true pool offset len bytes, λ h. true-range-is pool offset len bytes (h .0) (h .1))
 
-pub range-test : (pool : List ℕ) (offset len : ℕ) (bytes : List ℕ) → Inside pool offset len → Decides (rangeIs pool offset len bytes) (range pool offset len ≡ bytes)
+pub range-test :
+    (pool : List ℕ) (offset len : ℕ) (bytes : List ℕ) →
+    Inside pool offset len →
+    Decides (rangeIs pool offset len bytes) (range pool offset len ≡ bytes)
 range-test pool offset len bytes inside = decides-as (range-decides pool offset len bytes) (λ h. h .1) (λ e. (inside, e))

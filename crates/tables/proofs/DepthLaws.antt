@@ -88,7 +88,8 @@ module _ {nodes : List ℕ} where
     -- the first child of p, if any, is record p + 1
     pub first-child : {p i : ℕ} → Child nodes p i → Child nodes p (suc p)
     first-child {p} {i} c =
-        ⊎-elim (λ e. next-child (next .inside) (sym e)) (λ t. let l = ancestor-earlier t in let m = next .earlier in absurd (omega arith)) (ancestor-cases below next)
+        ⊎-elim (λ e. next-child (next .inside) (sym e)) (λ t. let l = ancestor-earlier t in let m = next .earlier in absurd (omega arith))
+        (ancestor-cases below next)
       where
         below : Ancestor nodes p (suc p)
         below = run (Ancestor.parent c) (suc p) (omega arith) (c .earlier)

@@ -48,7 +48,8 @@ module _ (b : Board) (i : ℕ) (key : List ℕ) where
   true-is-property : (k : ℕ) → Property b i key k → isProperty (b .props) (b .pool) i key k ≡ true
   unfolding isProperty
   true-is-property k h =
-      rw (eq-eqb (propNode (b .props) k) i (h .node)) (true-range-is (b .pool) (keyOffset (b .props) k) (keyLength (b .props) k) key (h .range) (h .name))
+      rw (eq-eqb (propNode (b .props) k) i (h .node))
+      (true-range-is (b .pool) (keyOffset (b .props) k) (keyLength (b .props) k) key (h .range) (h .name))
 
   abbrev test : ℕ → Bool
   test = isProperty (b .props) (b .pool) i key

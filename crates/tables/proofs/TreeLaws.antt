@@ -44,7 +44,11 @@ module _ (nodes : List ℕ) where
   unfolding parentOf
   parent-is i p h = go (hasParent nodes i) refl h
     where
-      go : (b : Bool) → hasParent nodes i ≡ b → cond b (Record (parentWord nodes i)) Top ≡ Record p → (hasParent nodes i ≡ true) × (parentWord nodes i ≡ p) × (p < i)
+      go :
+          (b : Bool) →
+          hasParent nodes i ≡ b →
+          cond b (Record (parentWord nodes i)) Top ≡ Record p →
+          (hasParent nodes i ≡ true) × (parentWord nodes i ≡ p) × (p < i)
       go true e g = let w : parentWord nodes i ≡ p = cc in (e, w, rw w at (the-parent i e .earlier))
       go false e g = let z : _≡_ {A = ℕ} 0 1 = cc in absurd (omega arith)
 
@@ -103,7 +107,8 @@ module _ (nodes : List ℕ) where
         go (suc k) i = pick (hasParent nodes i) i _ refl (go k (parentWord nodes i))
 
   -- the ancestor test
-  pub below-parent : (a i : ℕ) → hasParent nodes i ≡ true → eqb (parentWord nodes i) a ≡ false → isBelow nodes (parentWord nodes i) a ≡ isBelow nodes i a
+  pub below-parent :
+      (a i : ℕ) → hasParent nodes i ≡ true → eqb (parentWord nodes i) a ≡ false → isBelow nodes (parentWord nodes i) a ≡ isBelow nodes i a
   unfolding isBelow
   below-parent a i h e = rw e at (climb-parent false (belowStep nodes a) i h)
 
@@ -131,7 +136,8 @@ module _ (nodes : List ℕ) where
   pub below-ancestor : (a i : ℕ) → isBelow nodes i a ≡ true → Ancestor nodes a i
   unfolding isBelow
   below-ancestor a i =
-      climb-keeps false (belowStep nodes a) (λ j b. b ≡ true → Ancestor nodes a j) (λ j h. let z : _≡_ {A = ℕ} 0 1 = cc in absurd (omega arith)) (λ j b p ih. go j b p ih (eqb (parentWord nodes j) a) refl) i
+      climb-keeps false (belowStep nodes a) (λ j b. b ≡ true → Ancestor nodes a j) (λ j h. let z : _≡_ {A = ℕ} 0 1 = cc in absurd (omega arith))
+      (λ j b p ih. go j b p ih (eqb (parentWord nodes j) a) refl) i
     where
       go :
           (j : ℕ) (b : Bool) →

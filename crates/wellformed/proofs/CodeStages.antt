@@ -13,7 +13,8 @@ use Rattle.wellformed.specs.answers.Check.{widthFault, nodeWordsFault, p
 module _ (b : Board) where
   abbrev shapeFault : ℕ
   shapeFault =
-      orNumber (widthFault (b .width)) (orNumber (nodeWordsFault (length (b .nodes))) (orNumber (propWordsFault (length (b .props))) (poolFault (length (b .pool)))))
+      orNumber (widthFault (b .width))
+      (orNumber (nodeWordsFault (length (b .nodes))) (orNumber (propWordsFault (length (b .props))) (poolFault (length (b .pool)))))
 
   abbrev nodesFault : Fault
   nodesFault = firstFault (nodeFault (b .nodes) (length (b .pool))) (nodeCount (b .nodes))
@@ -33,7 +34,8 @@ module _ (b : Board) where
       ∙ ap (orElse (told (nodeWordsFault (length (b .nodes))) 0)) (told-or (propWordsFault (length (b .props))) four 0 rest))
 
   pub shape-told : {v : ℕ} → v ≡ shapeFault → (v ≡ 0 → ⊥) → record { number = v; place = 0 } ≡ tableFault b
-  shape-told {v} e ne = told-first v 0 (orElse nodesFault propertiesFault) ne ∙ ap (λ (n : ℕ). orElse (told n 0) (orElse nodesFault propertiesFault)) e ∙ stages
+  shape-told {v} e ne =
+      told-first v 0 (orElse nodesFault propertiesFault) ne ∙ ap (λ (n : ℕ). orElse (told n 0) (orElse nodesFault propertiesFault)) e ∙ stages
 
   past-shape : {v : ℕ} → v ≡ shapeFault → v ≡ 0 → orElse nodesFault propertiesFault ≡ tableFault b
   past-shape e z = sym (told-second shapeFault 0 (orElse nodesFault propertiesFault) (sym e ∙ z)) ∙ stages

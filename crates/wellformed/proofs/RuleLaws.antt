@@ -97,7 +97,8 @@ module _ (b : Board) where
   all-seen (TableRule.nodeParentRoot lt h) = (lt, seen-second (omega arith) (omega arith) h (node-told b 0 lt))
   all-seen (TableRule.nodeParentOrder i lt h g) = (lt, seen-second (omega arith) (omega arith) (⊎-elim h g) (node-told b (suc i) lt))
   all-seen (TableRule.propertyNode k lt l) = (lt, seen-first (omega arith) (λ t. omega arith) (property-told b k lt))
-  all-seen (TableRule.propertyNameLength k lt h) = (lt, seen-first (omega arith) (λ t. ⊎-elim (λ e. omega arith) (λ l. omega arith) h) (property-told b k lt))
+  all-seen (TableRule.propertyNameLength k lt h) =
+      (lt, seen-first (omega arith) (λ t. ⊎-elim (λ e. omega arith) (λ l. omega arith) h) (property-told b k lt))
   all-seen (TableRule.propertyNameRange k lt h) = (lt, seen-first (omega arith) (λ t. h (t .name .inside)) (property-told b k lt))
   all-seen (TableRule.propertyValueRange k lt h) = (lt, seen-first (omega arith) (λ t. h (t .value)) (property-told b k lt))
   all-seen (TableRule.duplicateProperty j k l lt e n) = (lt, seen-second (omega arith) (omega arith) (λ t. t j l e n) (property-told b k lt))

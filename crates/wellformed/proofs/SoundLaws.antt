@@ -60,7 +60,9 @@ pub record Name (pool : List ℕ) (most offset len : ℕ) : Type 0 where
 abbrev BadName : List ℕ → ℕ → ℕ → ℕ → Type 0
 BadName pool most offset len = ((len ≡ 0) ⊎ (most < len)) ⊎ (Inside pool offset len → ⊥)
 
-name-decides : (pool : List ℕ) (most offset len : ℕ) → Decides (Name pool most offset len) (BadName pool most offset len) (soundName (length pool) most offset len)
+name-decides :
+    (pool : List ℕ) (most offset len : ℕ) →
+    Decides (Name pool most offset len) (BadName pool most offset len) (soundName (length pool) most offset len)
 unfolding soundName
 name-decides pool most offset len = go (eqb len 0) refl (ltb most len) refl (leb (offset + len) (length pool)) refl
   where
@@ -113,7 +115,8 @@ module _ (b : Board) where
           Verdict (TableRule b) 2 0 NodeWords (cond t (cond u 2 (cond v 2 0)) 2)
       go false e u f v g = Verdict.broken (TableRule.nodeTablePart (eqb-false (words % 3) 0 e))
       go true e true f v g = let z = eqb-true words 0 f in Verdict.broken (TableRule.nodeTableEmpty (omega arith))
-      go true e false f true g = let l = ltb-true (3 * maxNodes) words g in let z = eqb-true (words % 3) 0 e in Verdict.broken (TableRule.nodeTableMany (omega arith))
+      go true e false f true g =
+          let l = ltb-true (3 * maxNodes) words g in let z = eqb-true (words % 3) 0 e in Verdict.broken (TableRule.nodeTableMany (omega arith))
       go true e false f false g =
           let z = eqb-true (words % 3) 0 e in
           let ne = eqb-false words 0 f in
@@ -136,7 +139,10 @@ module _ (b : Board) where
           ltb (5 * maxProperties) words ≡ v →
           Verdict (TableRule b) 3 0 PropWords (cond t (cond v 3 0) 3)
       go false e v g = Verdict.broken (TableRule.propertyTablePart (eqb-false (words % 5) 0 e))
-      go true e true g = let l = ltb-true (5 * maxProperties) words g in let z = eqb-true (words % 5) 0 e in Verdict.broken (TableRule.propertyTableMany (omega arith))
+      go true e true g =
+          let l = ltb-true (5 * maxProperties) words g in
+          let z = eqb-true (words % 5) 0 e in
+          Verdict.broken (TableRule.propertyTableMany (omega arith))
       go true e false g =
           let z = eqb-true (words % 5) 0 e in
           let l = ltb-false (5 * maxProperties) words g in
@@ -155,10 +161,16 @@ module _ (b : Board) where
   abbrev pub NodeName : ℕ → Type 0
   NodeName i = Name (b .pool) maxNodeName (nameOffset (b .nodes) i) (nameLength (b .nodes) i)
 
-  node-name-decides : (i : ℕ) → i < nodeCount (b .nodes) → Decides (NodeName i) (TableRule b 5 i) (soundName (length (b .pool)) maxNodeName (nameOffset (b .nodes) i) (nameLength (b .nodes) i))
+  node-name-decides :
+      (i : ℕ) →
+      i < nodeCount (b .nodes) →
+      Decides (NodeName i) (TableRule b 5 i) (soundName (length (b .pool)) maxNodeName (nameOffset (b .nodes) i) (nameLength (b .nodes) i))
   node-name-decides i lt = go (name-decides (b .pool) maxNodeName (nameOffset (b .nodes) i) (nameLength (b .nodes) i))
     where
-      go : {t : Bool} → Decides (NodeName i) (BadName (b .pool) maxNodeName (nameOffset (b .nodes) i) (nameLength (b .nodes) i)) t → Decides (NodeName i) (TableRule b 5 i) t
+      go :
+          {t : Bool} →
+          Decides (NodeName i) (BadName (b .pool) maxNodeName (nameOffset (b .nodes) i) (nameLength (b .nodes) i)) t →
+          Decides (NodeName i) (TableRule b 5 i) t
       go (Decides.holds p) = Decides.holds p
       go (Decides.fails h) = Decides.fails (⊎-elim (TableRule.nodeNameLength i lt) (TableRule.nodeNameRange i lt) h)
 
@@ -179,7 +191,12 @@ module _ (b : Board) where
       parent : ℕ
       parent = parentWord (b .nodes) (suc i)
 
-      go : (t : Bool) → eqb parent i ≡ t → (u : Bool) → isBelow (b .nodes) i parent ≡ u → Decides (NodeParent (suc i)) (TableRule b 6 (suc i)) (cond t true u)
+      go :
+          (t : Bool) →
+          eqb parent i ≡ t →
+          (u : Bool) →
+          isBelow (b .nodes) i parent ≡ u →
+          Decides (NodeParent (suc i)) (TableRule b 6 (suc i)) (cond t true u)
       go true e u f = Decides.holds (inl (eqb-true parent i e))
       go false e true f = Decides.holds (inr (below-test parent i .0 f))
       go false e false f = Decides.fails (TableRule.nodeParentOrder i lt (eqb-false parent i e) (not-below-test parent i .0 f))
@@ -196,7 +213,10 @@ module _ (b : Board) where
     pub name : Name (b .pool) maxPropertyName (keyOffset (b .props) k) (keyLength (b .props) k)
     pub value : Inside (b .pool) (valueOffset (b .props) k) (valueLength (b .props) k)
 
-  property-decides : (k : ℕ) → k < propCount (b .props) → Decides (SoundProperty k) (TableRule b 7 k) (soundProperty (nodeCount (b .nodes)) (b .props) (length (b .pool)) k)
+  property-decides :
+      (k : ℕ) →
+      k < propCount (b .props) →
+      Decides (SoundProperty k) (TableRule b 7 k) (soundProperty (nodeCount (b .nodes)) (b .props) (length (b .pool)) k)
   unfolding soundProperty soundWords
   property-decides k lt =
       go
@@ -210,7 +230,8 @@ module _ (b : Board) where
           (t : Bool) →
           ltb (propNode (b .props) k) (nodeCount (b .nodes)) ≡ t →
           {u : Bool} →
-          Decides (Name (b .pool) maxPropertyName (keyOffset (b .props) k) (keyLength (b .props) k)) (BadName (b .pool) maxPropertyName (keyOffset (b .props) k) (keyLength (b .props) k)) u →
+          Decides (Name (b .pool) maxPropertyName (keyOffset (b .props) k) (keyLength (b .props) k))
+          (BadName (b .pool) maxPropertyName (keyOffset (b .props) k) (keyLength (b .props) k)) u →
           (v : Bool) →
           leb (valueOffset (b .props) k + valueLength (b .props) k) (length (b .pool)) ≡ v →
           Decides (SoundProperty k) (TableRule b 7 k) (cond t (cond u v false) false)
@@ -223,7 +244,8 @@ module _ (b : Board) where
   abbrev pub NoRepeat : ℕ → Type 0
   NoRepeat k = (j : ℕ) → j < k → propNode (b .props) j ≡ propNode (b .props) k → propName b j ≡ propName b k → ⊥
 
-  same-true : (k j : ℕ) → sameProperty (b .props) (b .pool) k j ≡ true → (propNode (b .props) j ≡ propNode (b .props) k) × (propName b j ≡ propName b k)
+  same-true :
+      (k j : ℕ) → sameProperty (b .props) (b .pool) k j ≡ true → (propNode (b .props) j ≡ propNode (b .props) k) × (propName b j ≡ propName b k)
   unfolding sameProperty
   same-true k j h =
       let t = both-true (eqb (propNode (b .props) j) (propNode (b .props) k)) h in
@@ -246,6 +268,9 @@ module _ (b : Board) where
           Decides.holds (TableRule.duplicateProperty (place .0) k (place .1) lt (s .0) (s .1))
       go false e = Decides.fails (λ j l n m. true-false (any-at test j k l (true-same k j n m)) e)
 
-  pub property-told : (k : ℕ) → k < propCount (b .props) → Verdicts b 7 8 k (SoundProperty k) (NoRepeat k) (propertyFault (nodeCount (b .nodes)) (b .props) (b .pool) k)
+  pub property-told :
+      (k : ℕ) →
+      k < propCount (b .props) →
+      Verdicts b 7 8 k (SoundProperty k) (NoRepeat k) (propertyFault (nodeCount (b .nodes)) (b .props) (b .pool) k)
   unfolding propertyFault
   property-told k lt = told-before (property-decides k lt) (told-when (repeat-decides k lt))

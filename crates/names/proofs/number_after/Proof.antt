@@ -32,7 +32,8 @@ unfolding numberAfter
 returns-2 c =
     let test = c .before .before in
     let a = test .before .before .before .before .before .args in
-    rw (sym (test .before .starts-with .ensures) ∙ test .if2 .taken) (c .number-of .ensures ∙ ap numberOf (part-is (length (a .word .now)) (a .name .now)))
+    rw (sym (test .before .starts-with .ensures) ∙ test .if2 .taken)
+    (c .number-of .ensures ∙ ap numberOf (part-is (length (a .word .now)) (a .name .now)))
 
 returns-3 : tie.Need-returns-3
 unfolding numberAfter

@@ -12,7 +12,8 @@ use Rattle.names.proofs.number_of.Statement.{statement}
 use Rattle.names.proofs.number_of.Tie as tie
 
 abbrev Inv-loop : tie.InvT-loop
-Inv-loop digits n value₀ i₀ value i = (i ≤ length digits) × (length digits ≤ 4) × (value < 10 ^ i) × (numberOf digits ≡ digitsFrom value (drop i digits))
+Inv-loop digits n value₀ i₀ value i =
+    (i ≤ length digits) × (length digits ≤ 4) × (value < 10 ^ i) × (numberOf digits ≡ digitsFrom value (drop i digits))
 
 abbrev μ-loop : tie.MeasureT-loop
 μ-loop digits n value₀ i₀ value i = length digits - i
@@ -30,14 +31,24 @@ shared-slice-read-if4 c = search needs
 
 returns-3 : tie.Need-returns-3 Inv-loop μ-loop
 unfolding numberOf
-returns-3 c = rw (ne-eqb _ _ (c .before .before .before .before .if1 .left), le-ltb _ _ (c .before .before .before .if2 .left), lt-ltb _ _ (c .before .before .if3 .taken), eq-eqb _ _ (c .if4 .taken))
+returns-3 c =
+    rw (
+      ne-eqb _ _ (c .before .before .before .before .if1 .left),
+      le-ltb _ _ (c .before .before .before .if2 .left),
+      lt-ltb _ _ (c .before .before .if3 .taken),
+      eq-eqb _ _ (c .if4 .taken),
+    )
 
 loop-holds : tie.Need-loop-holds Inv-loop μ-loop
 unfolding numberOf
 loop-holds c =
     let some = ne-eqb _ _ (c .before .before .if1 .left) in
-    let few = le-ltb _ _ (c .before .if2 .left) in
-    (omega arith, omega arith, omega arith, ⊎-elim (λ w. rw (some, few, lt-ltb _ _ (w .0 .taken), ne-eqb _ _ (w .2 .left))) (λ w. rw (some, few, le-ltb _ _ (w .left))) (c .if3 .came))
+    let few = le-ltb _ _ (c .before .if2 .left) in (
+      omega arith,
+      omega arith,
+      omega arith,
+      ⊎-elim (λ w. rw (some, few, lt-ltb _ _ (w .0 .taken), ne-eqb _ _ (w .2 .left))) (λ w. rw (some, few, le-ltb _ _ (w .left))) (c .if3 .came),
+    )
 
 shared-slice-read-d : tie.Need-shared-slice-read-d Inv-loop μ-loop
 shared-slice-read-d c = search needs
@@ -52,7 +63,8 @@ returns-5 : tie.Need-returns-5 Inv-loop μ-loop
 returns-5 c =
     let loop = c .before .before .before .before .loop in
     let a = c .before .before .before .before .before .before .before .before .args in
-    rw (loop .inv .3, digits-step (a .digits .now) (loop .value) (loop .i) (omega arith), le-ltb _ _ (c .before .if5 .left), lt-ltb _ _ (c .if6 .taken))
+    rw
+    (loop .inv .3, digits-step (a .digits .now) (loop .value) (loop .i) (omega arith), le-ltb _ _ (c .before .if5 .left), lt-ltb _ _ (c .if6 .taken))
 
 mul-value : tie.Need-mul-value Inv-loop μ-loop
 mul-value c = omega (arith, power-le (c .before .before .before .before .loop .i) (omega arith))
@@ -76,7 +88,9 @@ loop-again c =
       omega arith,
       omega arith,
       omega (arith, power-next (loop .i)),
-      loop .inv .3 ∙ digits-step (a .digits .now) (loop .value) (loop .i) (omega arith) ∙ rw (le-ltb _ _ (c .before .if5 .left), le-ltb _ _ (c .if6 .left)),
+      loop .inv .3
+          ∙ digits-step (a .digits .now) (loop .value) (loop .i) (omega arith)
+          ∙ rw (le-ltb _ _ (c .before .if5 .left), le-ltb _ _ (c .if6 .left)),
     )
 
 returns-6 : tie.Need-returns-6 Inv-loop μ-loop

@@ -26,10 +26,13 @@ pub data TableRule (b : Board) : ℕ → ℕ → Type 0 where
       (Ancestor (b .nodes) (parentWord (b .nodes) (suc i)) i → ⊥) →
       TableRule b 6 (suc i)
   propertyNode : (k : ℕ) → k < propCount (b .props) → nodeCount (b .nodes) ≤ propNode (b .props) k → TableRule b 7 k
-  propertyNameLength : (k : ℕ) → k < propCount (b .props) → (keyLength (b .props) k ≡ 0) ⊎ (maxPropertyName < keyLength (b .props) k) → TableRule b 7 k
+  propertyNameLength :
+      (k : ℕ) → k < propCount (b .props) → (keyLength (b .props) k ≡ 0) ⊎ (maxPropertyName < keyLength (b .props) k) → TableRule b 7 k
   propertyNameRange : (k : ℕ) → k < propCount (b .props) → (Inside (b .pool) (keyOffset (b .props) k) (keyLength (b .props) k) → ⊥) → TableRule b 7 k
-  propertyValueRange : (k : ℕ) → k < propCount (b .props) → (Inside (b .pool) (valueOffset (b .props) k) (valueLength (b .props) k) → ⊥) → TableRule b 7 k
-  duplicateProperty : (j k : ℕ) → j < k → k < propCount (b .props) → propNode (b .props) j ≡ propNode (b .props) k → propName b j ≡ propName b k → TableRule b 8 k
+  propertyValueRange :
+      (k : ℕ) → k < propCount (b .props) → (Inside (b .pool) (valueOffset (b .props) k) (valueLength (b .props) k) → ⊥) → TableRule b 7 k
+  duplicateProperty :
+      (j k : ℕ) → j < k → k < propCount (b .props) → propNode (b .props) j ≡ propNode (b .props) k → propName b j ≡ propName b k → TableRule b 8 k
 
 -- well-formed tables: none of rules 1 to 8 is broken
 abbrev pub WellFormed : Board → Type 0

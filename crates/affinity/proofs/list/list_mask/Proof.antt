@@ -32,7 +32,11 @@ returns-3 c =
     let test = c .before .before .is-affine in
     let bits = c .before .before .before .gather in
     let told = some-told list (bits .result) (test .result) (bits .ensures) (test .ensures) (not-true (test .result) (c .before .if3 .taken)) in
-    rw (fault-within list (c .before .before .before .before .before .if1 .left) (c .before .before .before .before .if2 .left), ne-eqb _ 0 told, c .first-outside .ensures)
+    rw (
+      fault-within list (c .before .before .before .before .before .if1 .left) (c .before .before .before .before .if2 .left),
+      ne-eqb _ 0 told,
+      c .first-outside .ensures,
+    )
 
 returns-4 : tie.Need-returns-4
 unfolding maskAnswer gathered

@@ -21,7 +21,8 @@ returns : tie.Need-returns
 unfolding isCpu
 returns c =
     let test = c .before .before .before in
-    rw (sym (test .before .is-child .ensures) ∙ test .if1 .taken, ← c .before .before .node-word .ensures, ← c .before .node-word2 .ensures) (c .is-cpu-name .ensures)
+    rw (sym (test .before .is-child .ensures) ∙ test .if1 .taken, ← c .before .before .node-word .ensures, ← c .before .node-word2 .ensures)
+    (c .is-cpu-name .ensures)
 
 returns-2 : tie.Need-returns-2
 unfolding isCpu

@@ -67,15 +67,20 @@ loop-again-2 : tie.Need-loop-again-2 Inv-loop μ-loop
 loop-again-2 c =
     let test = c .before .before in
     let loop = test .before .before .before .loop in
-    let yes = sym (test .before .is-cpu .ensures) ∙ not-false _ (test .if1 .left) in
-    (omega arith, ap (λ (n : ℕ). n + 1) (loop .inv .1) ∙ sym (count-yes _ _ yes), c .put-record .ensures ∙ listed-yes _ _ _ (loop .inv .1) (loop .inv .2) yes)
+    let yes = sym (test .before .is-cpu .ensures) ∙ not-false _ (test .if1 .left) in (
+      omega arith,
+      ap (λ (n : ℕ). n + 1) (loop .inv .1) ∙ sym (count-yes _ _ yes),
+      c .put-record .ensures ∙ listed-yes _ _ _ (loop .inv .1) (loop .inv .2) yes,
+    )
 
 returns : tie.Need-returns Inv-loop μ-loop
 returns c =
     let a = c .before .before .before .before .before .args in
     let loop = c .before .loop in
-    let end : loop .i ≡ min (nodeCount (a .nodes .now)) maxNodes = omega (arith, c .before .before .at-most .ensures) in
-    (loop .inv .1 ∙ ap (countBelow (isCpu (a .nodes .now) (a .pool .now))) end, loop .inv .2 ∙ ap (λ (k : ℕ). laidOver (listBelow (isCpu (a .nodes .now) (a .pool .now)) k) (a .records .now)) end)
+    let end : loop .i ≡ min (nodeCount (a .nodes .now)) maxNodes = omega (arith, c .before .before .at-most .ensures) in (
+      loop .inv .1 ∙ ap (countBelow (isCpu (a .nodes .now) (a .pool .now))) end,
+      loop .inv .2 ∙ ap (λ (k : ℕ). laidOver (listBelow (isCpu (a .nodes .now) (a .pool .now)) k) (a .records .now)) end,
+    )
 
 pub list-cpus-spec : {M : Type 1} → statement M
 list-cpus-spec =

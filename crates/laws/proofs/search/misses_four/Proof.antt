@@ -65,7 +65,12 @@ shared-slice-read-if5 c = search needs
 returns-5 : tie.Need-returns-5
 unfolding missesFour
 returns-5 c =
-    rw (fits (c .before .before .before .before .before .before), ne-eqb _ _ (c .before .before .before .before .if3 .left), ne-eqb _ _ (c .before .before .if4 .left), eq-eqb _ _ (c .if5 .taken))
+    rw (
+      fits (c .before .before .before .before .before .before),
+      ne-eqb _ _ (c .before .before .before .before .if3 .left),
+      ne-eqb _ _ (c .before .before .if4 .left),
+      eq-eqb _ _ (c .if5 .taken),
+    )
 
 add-if6 : tie.Need-add-if6
 add-if6 c = search needs
@@ -79,12 +84,24 @@ shared-slice-read-if6 c = search needs
 returns-6 : tie.Need-returns-6
 unfolding missesFour
 returns-6 c =
-    rw (fits (c .before .before .before .before .before .before .before .before), ne-eqb _ _ (c .before .before .before .before .before .before .if3 .left), ne-eqb _ _ (c .before .before .before .before .if4 .left), ne-eqb _ _ (c .before .before .if5 .left), eq-eqb _ _ (c .if6 .taken))
+    rw (
+      fits (c .before .before .before .before .before .before .before .before),
+      ne-eqb _ _ (c .before .before .before .before .before .before .if3 .left),
+      ne-eqb _ _ (c .before .before .before .before .if4 .left),
+      ne-eqb _ _ (c .before .before .if5 .left),
+      eq-eqb _ _ (c .if6 .taken),
+    )
 
 returns-7 : tie.Need-returns-7
 unfolding missesFour
 returns-7 c =
-    rw (fits (c .before .before .before .before .before .before .before .before), ne-eqb _ _ (c .before .before .before .before .before .before .if3 .left), ne-eqb _ _ (c .before .before .before .before .if4 .left), ne-eqb _ _ (c .before .before .if5 .left), ne-eqb _ _ (c .if6 .left))
+    rw (
+      fits (c .before .before .before .before .before .before .before .before),
+      ne-eqb _ _ (c .before .before .before .before .before .before .if3 .left),
+      ne-eqb _ _ (c .before .before .before .before .if4 .left),
+      ne-eqb _ _ (c .before .before .if5 .left),
+      ne-eqb _ _ (c .if6 .left),
+    )
 
 pub misses-four-spec : {M : Type 1} → statement M
 misses-four-spec =

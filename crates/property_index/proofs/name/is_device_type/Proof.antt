@@ -33,7 +33,8 @@ tested c =
 left :
     (c : tie.After-cell-at2) →
     let a = c .before .before .before .before .args in
-    cond (eqb (c .cell-at2 .result) 0x63655f74) (eqb (cellAt (a .pool .now) (a .offset + 7)) 0x74797065) false ≡ rangeIs (a .pool .now) (a .offset) 11 deviceTypeKey
+    cond (eqb (c .cell-at2 .result) 0x63655f74) (eqb (cellAt (a .pool .now) (a .offset + 7)) 0x74797065) false
+    ≡ rangeIs (a .pool .now) (a .offset) 11 deviceTypeKey
 left c = rw (c .cell-at2 .ensures) (rw (eq-eqb _ _ (c .before .if1 .left)) at (tested (c .before .before)))
 
 returns : tie.Need-returns

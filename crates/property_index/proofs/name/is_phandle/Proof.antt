@@ -21,7 +21,8 @@ cell-at-requires c κs = search needs
 tested :
     (c : tie.After-cell-at) →
     let a = c .before .before .args in
-    cond (eqb (c .cell-at .result) 0x7068616e) (eqb (cellAt (a .pool .now) (a .offset + 3)) 0x6e646c65) false ≡ rangeIs (a .pool .now) (a .offset) 7 phandleKey
+    cond (eqb (c .cell-at .result) 0x7068616e) (eqb (cellAt (a .pool .now) (a .offset + 3)) 0x6e646c65) false
+    ≡ rangeIs (a .pool .now) (a .offset) 7 phandleKey
 tested c =
     let a = c .before .before .args in
     rw (c .cell-at .ensures) (phandle-cells (a .pool .now) (a .offset) (λ i. omega (arith, c .before .shared-slice-known .given i)))

@@ -50,7 +50,9 @@ returns-3 c =
 is-phandle-requires : tie.Need-is-phandle-requires
 is-phandle-requires c κs = search needs
 
-seven : (c : tie.After-is-phandle) → let a = c .before .before .before .before .args in cond (c .is-phandle .result) 2 4 ≡ keyOf (a .pool .now) (a .offset) (a .len)
+seven :
+    (c : tie.After-is-phandle) →
+    let a = c .before .before .before .before .args in cond (c .is-phandle .result) 2 4 ≡ keyOf (a .pool .now) (a .offset) (a .len)
 seven c = rw (c .is-phandle .ensures, c .before .if4 .taken) (key-seven _ _)
 
 returns-4 : tie.Need-returns-4

@@ -1,4 +1,5 @@
--- `first_property_fault` tells the lowest property that breaks 7 or 8: none below k does, each is noted for its node, and none before `at` repeats property k. Assumes nothing.
+-- `first_property_fault` tells the lowest property that breaks 7 or 8: none below k does, each is noted for its node, and none before
+-- `at` repeats property k. Assumes nothing.
 use mathlib.Core.Path.{_≡_, refl, sym, _∙_}
 use mathlib.Core.Bool.{true, false}
 use mathlib.Core.Logic.{⊎-elim}
@@ -130,7 +131,8 @@ sound-told c =
 returns : tie.Need-returns Inv-loop μ-loop Inv-pairs μ-pairs
 returns c =
     let call = c .before in
-    at-fault _ _ _ (omega arith) (turn call .before .pairs .inv .1) (fault-seven _ _ _ _ (sym (sound-told call) ∙ not-true _ (c .if1 .taken))) (λ z. omega arith)
+    at-fault _ _ _ (omega arith) (turn call .before .pairs .inv .1) (fault-seven _ _ _ _ (sym (sound-told call) ∙ not-true _ (c .if1 .taken)))
+    (λ z. omega arith)
 
 -- property k keeps rule 7
 sound-is :
@@ -190,7 +192,9 @@ loop-holds c =
     let back : 5 * call .start-of .result / 5 ≡ call .start-of .result = omega arith in (
       omega arith,
       omega (arith, call .start-of .ensures .0),
-      rw back (none-before _ _ _ (turn test .before .pairs .inv .3) (words test .before .before .before .before .wide .ensures) (call .start-of .ensures .0) _),
+      rw back
+          (none-before _ _ _ (turn test .before .pairs .inv .3) (words test .before .before .before .before .wide .ensures)
+          (call .start-of .ensures .0) _),
     )
 
 may-be-requires : tie.Need-may-be-requires Inv-loop μ-loop Inv-pairs μ-pairs
@@ -267,10 +271,13 @@ returns-3 c =
     ⊎-elim
     (λ w. absurd (omega arith))
     (λ w.
-    let told = words-sound (a .count) (a .props .now) (a .pool .now) (pairs .k) (w .11 .ensures) (w .2 .ensures) (w .4 .ensures) (w .6 .ensures) (w .8 .ensures) (w .10 .ensures) in
+    let told =
+    words-sound (a .count) (a .props .now) (a .pool .now) (pairs .k) (w .11 .ensures)
+    (w .2 .ensures) (w .4 .ensures) (w .6 .ensures) (w .8 .ensures) (w .10 .ensures) in
     let test = tested-property _ _ _ _ _ _ (w .17 .inv .0) (w .19 .ensures) (w .20 .taken) (w .22 .ensures) (w .23 .ensures) in
     let same = same-name _ _ _ _ _ (pairs .inv .1) (w .18 .taken) (w .2 .ensures) (w .4 .ensures) (w .6 .ensures) (sym test ∙ w .24 .taken) in
-    at-fault _ _ _ (c .if4 .left) (pairs .inv .1) (fault-eight _ _ _ _ _ (sym told ∙ not-false _ (w .12 .left)) (w .18 .taken) same) (λ z. omega arith))
+    at-fault _ _ _ (c .if4 .left) (pairs .inv .1) (fault-eight _ _ _ _ _ (sym told ∙ not-false _ (w .12 .left)) (w .18 .taken) same)
+    (λ z. omega arith))
     (c .before .pairs-test .came)
 
 pub first-property-fault-spec : {M : Type 1} → statement M

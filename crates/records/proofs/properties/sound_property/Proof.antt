@@ -20,7 +20,8 @@ sound-name-requires c κs = search needs
 past-name :
     (c : tie.After-sound-name) →
     let a = c .before .before .args in
-    cond (c .sound-name .result) (leb (a .value + a .size) (a .bytes)) false ≡ soundWords (a .count) (a .bytes) (a .node) (a .name) (a .len) (a .value) (a .size)
+    cond (c .sound-name .result) (leb (a .value + a .size) (a .bytes)) false
+    ≡ soundWords (a .count) (a .bytes) (a .node) (a .name) (a .len) (a .value) (a .size)
 unfolding soundWords
 past-name c = rw (lt-ltb _ _ (c .before .if1 .left), c .sound-name .ensures)
 

@@ -24,7 +24,8 @@ returns-2 c =
     let len = c .before in
     let offset = len .before in
     let test = offset .before in
-    by-name _ _ _ _ _ _ (test .before .prop-word .ensures) (test .if1 .left) (offset .prop-word2 .ensures) (len .prop-word3 .ensures) (c .range-is .ensures)
+    by-name _ _ _ _ _ _ (test .before .prop-word .ensures) (test .if1 .left) (offset .prop-word2 .ensures) (len .prop-word3 .ensures)
+    (c .range-is .ensures)
 
 pub is-property-spec : {M : Type 1} → statement M
 is-property-spec =

@@ -45,7 +45,8 @@ reaches-returns-2 t c =
     below-none _ _ _ (parent-top _ _ (sym (call .parent-of .ensures) ∙ c .enum-told .given .1)) ∙ reach-on _ _ _ (call .before .if1 .left)
 
 reaches-reaches-requires : (t : ℕ) → reaches-lts.Need-reaches-requires (claims t) (reaches-at t) reaches.Post
-reaches-reaches-requires t c κs = omega (arith, parent-is _ _ _ (sym (c .before .before .before .parent-of .ensures) ∙ c .before .parent .given .1) .2)
+reaches-reaches-requires t c κs =
+    omega (arith, parent-is _ _ _ (sym (c .before .before .before .parent-of .ensures) ∙ c .before .parent .given .1) .2)
 
 reaches-returns-3 : (t : ℕ) → reaches-lts.Need-returns-3 (claims t) (reaches-at t) reaches.Post
 reaches-returns-3 t c =

@@ -24,7 +24,8 @@ first-property-fault-requires c κs = search needs
 returns-3 : tie.Need-returns-3
 returns-3 c =
     let call = c .before .before .before in
-    properties-told _ (call .before .before .size-fault .ensures) (call .before .if1 .left) (call .first-node-fault .ensures) (c .before .if2 .left) (c .first-property-fault .ensures)
+    properties-told _ (call .before .before .size-fault .ensures) (call .before .if1 .left) (call .first-node-fault .ensures) (c .before .if2 .left)
+    (c .first-property-fault .ensures)
 
 pub table-fault-spec : {M : Type 1} → statement M
 table-fault-spec =
