@@ -23,12 +23,14 @@ const UNTOUCHED: u32 = 9;
 /// The rows that are lent to a board that is refused.
 const REFUSED_ROWS: usize = 6;
 
-/// The files stdin and stdout of the program. The texts between the numbers
-/// stand in both.
+/// The files stdin and stdout of the program. It writes numbers, and after each
+/// the next text of its input.
 #[derive(Default)]
 pub struct Files {
     pub input: Vec<u8>,
     pub output: String,
+    /// What is read before the next number is written.
+    data: Vec<u8>,
 }
 
 /// The number of cases, the cases, and the end of the last line.
@@ -36,7 +38,7 @@ pub fn files() -> Files {
     let (boards, lists) = (boards(), lists());
     let asked: usize = lists.iter().map(|list| list.asked.len()).sum();
     let mut files = Files::default();
-    files.word((boards.len() + asked + NAMES.len()) as u32);
+    files.start(boards.len() + asked + NAMES.len());
     for list in &lists {
         list.asked.iter().for_each(|&mpidr| files.list(list, mpidr));
     }
@@ -47,8 +49,13 @@ pub fn files() -> Files {
 }
 
 impl Files {
+    fn start(&mut self, cases: usize) {
+        self.input.extend((cases as u32).to_be_bytes());
+        self.output = cases.to_string();
+    }
+
     fn word(&mut self, word: u32) {
-        self.input.extend(word.to_be_bytes());
+        self.data.extend(word.to_be_bytes());
     }
 
     fn words(&mut self, words: &[u32]) {
@@ -58,40 +65,39 @@ impl Files {
 
     fn bytes(&mut self, bytes: &[u8]) {
         self.word(bytes.len() as u32);
-        self.input.extend(bytes);
+        self.data.extend(bytes);
     }
 
     fn mpidr(&mut self, mpidr: u64) {
-        self.input.extend(mpidr.to_be_bytes());
+        self.data.extend(mpidr.to_be_bytes());
     }
 
+    /// The text after the last number stands before the data of the next.
     fn text(&mut self, text: &str) {
         assert!(text.len() <= TEXT_BYTES, "{text}");
-        self.bytes(text.as_bytes());
+        self.input.extend((text.len() as u32).to_be_bytes());
+        self.input.extend(text.as_bytes());
+        self.input.append(&mut self.data);
         self.output.push_str(text);
     }
 
-    /// A text, and what the program writes behind it.
+    /// A text, and the number that is written after it.
     fn told(&mut self, text: &str, number: impl Display) {
         self.text(text);
         write!(self.output, "{number}").expect("a string takes it");
     }
 
-    /// The same on a line of its own.
-    fn line(&mut self, text: &str, number: impl Display) {
-        let end = if self.output.is_empty() { "" } else { "\n" };
-        self.told(&format!("{end}{text}"), number);
-    }
-
-    fn hash(&mut self, answer: &Answer) {
-        let [a, b, c, d] = answer.shifts;
-        self.told(", mask 0x", format!("{:x}", answer.mask));
+    fn answer(&mut self, answer: &Answer, third: &str, hash: &Answer) {
+        let [a, b, c, d] = hash.shifts;
+        self.told(", place ", answer.place);
+        self.told(third, answer.count);
+        self.told(", mask ", hash.mask);
         self.told(", shifts ", a);
         [b, c, d].iter().for_each(|shift| self.told(" ", shift));
-        self.told(", bits ", answer.bits);
+        self.told(", bits ", hash.bits);
     }
 
-    /// The list's hash and the slot of an MPIDR in it.
+    /// Whether the list has a hash, and the slot of an MPIDR in it.
     fn list(&mut self, list: &List, mpidr: u64) {
         let hash = second::list_hash(&list.mpidrs);
         let slot = second::list_slot(mpidr, &list.mpidrs);
@@ -99,12 +105,10 @@ impl Files {
         self.word(list.mpidrs.len() as u32);
         list.mpidrs.iter().for_each(|&mpidr| self.mpidr(mpidr));
         self.mpidr(mpidr);
-        self.line(&format!("{}, {mpidr:#x}: number ", list.label), hash.number);
+        self.told(&format!("\n{}: number ", list.label), hash.number);
         self.told(", place ", hash.place);
-        self.hash(&hash);
-        self.told("; number ", slot.number);
-        self.told(", place ", slot.place);
-        self.told(", slot ", slot.count);
+        self.told(&format!("; {mpidr:#x}: number "), slot.number);
+        self.answer(&slot, ", slot ", &hash);
     }
 
     fn name(&mut self, (label, name): &(&str, &str)) {
@@ -117,7 +121,7 @@ impl Files {
         };
         self.word(NAME);
         self.bytes(name.as_bytes());
-        self.line(&format!("{label}, {name}: kind "), kind);
+        self.told(&format!("\n{label}, {name}: kind "), kind);
         self.told(", number ", number);
     }
 
@@ -139,10 +143,8 @@ impl Files {
         self.bytes(&board.pool);
         self.words(&vec![UNTOUCHED; room]);
         self.word(board.width);
-        self.line(&format!("{label}: number "), answer.number);
-        self.told(", place ", answer.place);
-        self.told(", count ", answer.count);
-        self.hash(&answer);
+        self.told(&format!("\n{label}: number "), answer.number);
+        self.answer(&answer, ", count ", &answer);
         rows.resize(room, UNTOUCHED);
         for (at, word) in rows.iter().enumerate() {
             let starts = at == 0 || accepted && at % ROW_WORDS == 0;

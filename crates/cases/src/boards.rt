@@ -1,7 +1,6 @@
 // Boards.
 use crate::input;
 use crate::say;
-use demands::BoardAnswer;
 
 // Room for a record or a row more than the limits allow.
 fn table() -> [u32; 20485] {
@@ -29,14 +28,8 @@ fn read(nodes: &[u32], props: &[u32]) {
     let mut rows = table();
     let r = input::words(&mut rows);
     let width = input::word();
-    show(board::read_tables(width, nodes, props, &pool[..b], &mut rows[..r]));
-    say::words(&rows[..r]);
-}
-
-fn show(answer: BoardAnswer) {
+    let answer = board::read_tables(width, nodes, props, &pool[..b], &mut rows[..r]);
     let hash = answer.hash;
-    say::told(answer.number as u64);
-    say::told(answer.place as u64);
-    say::told(answer.count as u64);
-    say::hash(hash);
+    say::answer(answer.number, answer.place, answer.count, hash);
+    say::words(&rows[..r]);
 }

@@ -17,15 +17,12 @@ pub fn list() {
     ask(input::mpidr(), &list[..count]);
 }
 
-// The hash, and the slot.
+// The number and the place of the hash, then the slot's answer with the hash.
 fn ask(mpidr: u64, list: &[u64]) {
     let found = affinity::list_hash(list);
     let hash = found.hash;
     say::told(found.number as u64);
     say::told(found.place as u64);
-    say::hash(hash);
     let one = affinity::list_slot(mpidr, list);
-    say::told(one.number as u64);
-    say::told(one.place as u64);
-    say::told(one.slot as u64);
+    say::answer(one.number, one.place, one.slot as usize, hash);
 }

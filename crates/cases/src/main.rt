@@ -21,6 +21,7 @@ fn name() {
 // The first word is the number of cases, and the first of each case is its kind.
 fn main() {
     let mut left = input::word();
+    say::told(left as u64);
     while left > 0 {
         let kind = input::word();
         if kind == BOARD {
@@ -32,5 +33,4 @@ fn main() {
         }
         left -= 1;
     }
-    say::text();
 }

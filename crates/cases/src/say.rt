@@ -3,17 +3,12 @@ use crate::input;
 use affinity::Hash;
 use libc::STDOUT_FILENO;
 
-// The next text of standard input.
-pub fn text() {
-    let mut bytes = [0u8; 96];
-    let count = input::bytes(&mut bytes);
-    io::write_all(STDOUT_FILENO, &bytes[..count]);
-}
-
-// The next text, and a number after it.
+// A number, and the next text of standard input after it.
 pub fn told(n: u64) {
-    text();
+    let mut text = [0u8; 96];
+    let count = input::bytes(&mut text);
     io::print_decimal(STDOUT_FILENO, n);
+    io::write_all(STDOUT_FILENO, &text[..count]);
 }
 
 pub fn words(words: &[u32]) {
@@ -24,10 +19,13 @@ pub fn words(words: &[u32]) {
     }
 }
 
-pub fn hash(hash: Hash) {
+// An answer; its third number is a count or a slot.
+pub fn answer(number: u32, place: usize, third: usize, hash: Hash) {
     let shifts = hash.shifts;
-    text();
-    io::print_hex(STDOUT_FILENO, hash.mask, 1);
+    told(number as u64);
+    told(place as u64);
+    told(third as u64);
+    told(hash.mask);
     words(&shifts);
     told(hash.bits as u64);
 }

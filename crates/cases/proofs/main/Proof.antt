@@ -12,6 +12,12 @@ abbrev μ-loop : tie.MeasureT-loop
 word-requires : tie.Need-word-requires Inv-loop μ-loop
 word-requires c κs = search needs
 
+cast-told : tie.Need-cast-told Inv-loop μ-loop
+cast-told c = search needs
+
+told-requires : tie.Need-told-requires Inv-loop μ-loop
+told-requires c κs = search needs
+
 loop-holds : tie.Need-loop-holds Inv-loop μ-loop
 loop-holds c = search needs
 
@@ -36,9 +42,6 @@ loop-less c = search needs
 loop-again : tie.Need-loop-again Inv-loop μ-loop
 loop-again c = search needs
 
-text-requires : tie.Need-text-requires Inv-loop μ-loop
-text-requires c κs = search needs
-
 returns : tie.Need-returns Inv-loop μ-loop
 returns c = search needs
 
@@ -49,6 +52,8 @@ main-spec =
     Inv-loop
     μ-loop
     word-requires
+    cast-told
+    told-requires
     loop-holds
     word-requires-2
     board-requires
@@ -57,5 +62,4 @@ main-spec =
     sub-left
     loop-less
     loop-again
-    text-requires
     returns)

@@ -42,8 +42,8 @@ slice-aggregate-read-tables-2 c = search needs
 read-tables-requires : tie.Need-read-tables-requires
 read-tables-requires c κs = search needs
 
-show-requires : tie.Need-show-requires
-show-requires c κs = search needs
+answer-requires : tie.Need-answer-requires
+answer-requires c κs = search needs
 
 array-share-prefix-rows : tie.Need-array-share-prefix-rows
 array-share-prefix-rows c = simp length-append (omega arith)
@@ -73,7 +73,7 @@ read-spec =
     array-borrow-prefix-rows
     slice-aggregate-read-tables-2
     read-tables-requires
-    show-requires
+    answer-requires
     array-share-prefix-rows
     slice-aggregate-words-2
     words-requires-2
