@@ -25,9 +25,9 @@ use Rattle.wellformed.specs.facts.Rules.{WellFormed}
 use Rattle.tables.proofs.DepthLaws.{child-unique, first-child}
 use Rattle.tables.proofs.TreeLaws.{the-parent}
 use Rattle.wellformed.proofs.WellFormedLaws.{wf-depth}
-use Rattle.cpumap.specs.facts.Map.{Map, InMap, OfKind, FirstChild}
+use Rattle.cpumap.specs.facts.Map.{Map, InMap, OfKind}
 use Rattle.cpumap.specs.answers.Path.{topologyName}
-use Rattle.topology.specs.facts.Rules.{TopologyRule, Allowed}
+use Rattle.topology.specs.facts.Rules.{TopologyRule, Allowed, FirstChild}
 use Rattle.cpumap.specs.answers.Number.{kindNumber}
 use Rattle.topology.specs.answers.Check.{allowedUnder, allowedInMap, kindFault, numberFault, shapeFault, mapRecordFault}
 use Rattle.cpumap.proofs.NameFacts.{Says, topology-says, topology-is, topology-cases, is-unique, kinds-apart}

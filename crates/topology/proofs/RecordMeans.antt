@@ -25,9 +25,9 @@ use Rattle.wellformed.specs.facts.Rules.{WellFormed}
 use Rattle.tables.proofs.DepthLaws.{child-unique}
 use Rattle.wellformed.proofs.WellFormedLaws.{wf-depth}
 use Rattle.tables.specs.answers.Tree.{isChild}
-use Rattle.cpumap.specs.facts.Map.{Map, InMap, OfKind, Childless, ClusterAbove}
+use Rattle.cpumap.specs.facts.Map.{Map, InMap, OfKind, ClusterAbove}
 use Rattle.cpumap.specs.answers.Path.{topologyName, clusterPath}
-use Rattle.topology.specs.facts.Rules.{TopologyRule}
+use Rattle.topology.specs.facts.Rules.{TopologyRule, Childless}
 use Rattle.cpumap.specs.answers.Number.{kindNumber, topologyNumber}
 use Rattle.topology.specs.answers.Check.{groupFault, depthFault, numberFault, shapeFault, mapRecordFault}
 use Rattle.topology.proofs.ChildMeans.{earlier-children, earlier-count, has-child-test}

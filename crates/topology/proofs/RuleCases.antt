@@ -6,9 +6,9 @@ use native.Mathlib.Omega.{arith}
 use Rattle.names.specs.facts.Kind.{Kind}
 use Rattle.tables.specs.facts.Board.{Board, nodeCount}
 use Rattle.wellformed.specs.facts.Order.{stage}
-use Rattle.cpumap.specs.facts.Map.{Map, InMap, Outside, OfKind, Childless}
+use Rattle.cpumap.specs.facts.Map.{Map, InMap, Outside, OfKind}
 use Rattle.cpumap.proofs.MapMeans.{in-map-inside}
-use Rattle.topology.specs.facts.Rules.{TopologyRule}
+use Rattle.topology.specs.facts.Rules.{TopologyRule, Childless}
 
 -- the records of which the rules speak, and the numbers told of each
 pub data Place (b : Board) (n i : ℕ) : Type 0 where

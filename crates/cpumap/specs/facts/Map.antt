@@ -29,14 +29,6 @@ pub record Outside (b : Board) (i : ℕ) : Type 0 where
 abbrev pub OfKind : Board → Kind → ℕ → Type 0
 OfKind b kind i = (n : ℕ) × Named (nodeName b i) kind n
 
-abbrev pub Childless : Board → ℕ → Type 0
-Childless b i = (j : ℕ) → Child (b .nodes) i j → ⊥
-
--- f is the first child of p
-pub record FirstChild (b : Board) (p f : ℕ) : Type 0 where
-  pub child : Child (b .nodes) p f
-  pub lowest : (j : ℕ) → Child (b .nodes) p j → f ≤ j
-
 -- a is a cluster above record i
 pub record ClusterAbove (b : Board) (i a : ℕ) : Type 0 where
   pub ancestor : Ancestor (b .nodes) a i

@@ -8,7 +8,8 @@ use Rattle.tables.specs.facts.Binding.{cpuKey, phandleKey}
 use Rattle.tables.specs.facts.Board.{Board}
 use Rattle.tables.specs.facts.Property.{HasValue}
 use Rattle.cpus.specs.facts.Node.{Cpu}
-use Rattle.cpumap.specs.facts.Map.{InMap, OfKind, Childless}
+use Rattle.cpumap.specs.facts.Map.{InMap, OfKind}
+use Rattle.topology.specs.facts.Rules.{Childless}
 
 -- a leaf: a thread, or a core without children
 pub data Leaf (b : Board) (i : ℕ) : Type 0 where

@@ -2,14 +2,22 @@
 use mathlib.Core.Path.{_≡_}
 use mathlib.Core.Logic.{_⊎_}
 use mathlib.Core.List.{List}
-use Prim.Native.Nat.{ℕ, _<_}
+use Prim.Native.Nat.{ℕ, _<_, _≤_}
 use lib.ListN.{length}
 use Rattle.laws.specs.facts.Limits.{maxClustersAbove}
 use Rattle.laws.specs.facts.Listing.{Listing}
 use Rattle.names.specs.facts.Kind.{Kind, Named}
 use Rattle.tables.specs.facts.Board.{Board, nodeCount, nodeName}
 use Rattle.tables.specs.facts.Tree.{Child}
-use Rattle.cpumap.specs.facts.Map.{Map, InMap, Outside, OfKind, Childless, FirstChild, ClusterAbove}
+use Rattle.cpumap.specs.facts.Map.{Map, InMap, Outside, OfKind, ClusterAbove}
+
+abbrev pub Childless : Board → ℕ → Type 0
+Childless b i = (j : ℕ) → Child (b .nodes) i j → ⊥
+
+-- f is the first child of p
+pub record FirstChild (b : Board) (p f : ℕ) : Type 0 where
+  pub child : Child (b .nodes) p f
+  pub lowest : (j : ℕ) → Child (b .nodes) p j → f ≤ j
 
 -- the kinds allowed under a record (000, sections 2 and 3)
 pub data Allowed (b : Board) (p : ℕ) : Kind → Type 0 where
