@@ -1,3 +1,3 @@
--- What the contracts of `index` cite.
+-- What the contracts of `property_index` cite.
 pub mod answers
 pub mod steps

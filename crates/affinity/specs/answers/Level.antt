@@ -16,6 +16,6 @@ topOf n = 8 - leadingZeros 8 n
 unfoldable pub widthOf : ℕ → ℕ
 widthOf n = topOf n - lowOf n
 
--- the same as a test
+-- whether a number has no bit outside the affinity bits
 unfoldable pub isAffine : ℕ → Bool
 isAffine m = cond (eqb (m / 2 ^ 40) 0) (eqb (m / 2 ^ 24 % 256) 0) false

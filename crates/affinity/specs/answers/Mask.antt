@@ -8,7 +8,7 @@ use Rattle.laws.specs.answers.Search.{anyBelow}
 use Rattle.laws.specs.facts.Digit.{digit}
 use Rattle.laws.specs.answers.FromDigits.{fromDigits}
 
--- the same as a digit: 1 where some two differ, 0 where none do
+-- 1 where some two of a list differ in bit k, 0 where none do
 unfoldable pub differing : List ℕ → ℕ → ℕ
 differing list k =
     cond

@@ -49,5 +49,6 @@ socketStep Other socket = socket
 unfoldable pub socketNumber : List ℕ → List ℕ → ℕ → ℕ
 socketNumber nodes pool i = climb nodes gap (λ j socket. socketStep (topologyName nodes pool j) socket) i
 
+-- the position of record i: its socket and its clusters
 unfoldable pub positionOf : List ℕ → List ℕ → ℕ → Position
 positionOf nodes pool i = record { socket = socketNumber nodes pool i; clusters = clusterPath nodes pool i }

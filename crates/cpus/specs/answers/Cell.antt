@@ -55,6 +55,6 @@ abbrev pub phandleIn : Value → Value
 phandleIn (Number h) = cond (eqb h 0) Invalid (cond (eqb h 0xFFFFFFFF) Invalid (Number h))
 phandleIn Invalid = Invalid
 
--- the same as a cell
+-- `cpu` and one zero byte, as a cell
 abbrev pub cpuCell : ℕ
 cpuCell = 0x63707500

@@ -6,7 +6,6 @@ use lib.ListN.{length, drop}
 use Rattle.names.specs.declared.Number.{Number}
 use Rattle.names.specs.declared.Number.the-variants.{NotDecimal}
 use Rattle.names.specs.answers.Name.{startsWith, numberOf}
-use Rattle.names.specs.facts.Kind.{word}
 
 -- the number that follows a word, where the name begins with it
 unfoldable pub numberAfter : List ℕ → List ℕ → Number

@@ -11,6 +11,7 @@ use Rattle.tables.specs.facts.Board.{Board, nodeCount, nodeName}
 use Rattle.tables.specs.facts.Tree.{Child}
 use Rattle.cpumap.specs.facts.Map.{Map, InMap, Outside, OfKind, ClusterAbove}
 
+-- record i has no children
 abbrev pub Childless : Board → ℕ → Type 0
 Childless b i = (j : ℕ) → Child (b .nodes) i j → ⊥
 
