@@ -7,5 +7,5 @@ pub mod FaultMeans
 pub mod CpuGives
 pub mod RuleMeans
 pub mod CpuTells
-pub mod GatherLaws
+pub mod NumberPassLaws
 pub mod ScanLaws

@@ -64,7 +64,7 @@ pub numbers-clear :
 unfolding firstRecord numbersOver
 numbers-clear r rule records before z = rw (eq-eqb (firstIndex r rule records .number) 0 (sym (told-number _ _) ∙ z), take-length records)
 
--- a table of keys that tells what a lookup finds gives the same readings
+-- an index of properties that tells what a lookup finds gives the same readings
 pub same-reading :
     (w : CpuNumbers) (props pool index : List ℕ) →
     ((i : ℕ) (key : Key) → indexedAt index i key ≡ lookup props pool i (keyName key)) →

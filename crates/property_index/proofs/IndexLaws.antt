@@ -1,4 +1,4 @@
--- A table of keys tells what a lookup finds. Assumes nothing.
+-- The index of properties tells what a lookup finds. Assumes nothing.
 use mathlib.Core.Path.{_≡_, refl, _∙_}
 use mathlib.Core.Bool.{Bool, true, false, cond}
 use mathlib.Core.Logic.{⊎-elim}

@@ -1,4 +1,4 @@
-// The table of keys: for each of the first 1,024 records and each key, 0 or one more than the number of the property.
+// The index of properties: for each of the first 1,024 records and each key, 0 or one more than the number of the property.
 use crate::INDEX_WORDS;
 use crate::KEYS;
 use crate::Key;

@@ -16,5 +16,5 @@ pub enum Key {
 // How many keys there are.
 const KEYS: usize = 4;
 
-// The words of a table of keys: four for each of 1,024 records.
+// The words of an index of properties: four for each of 1,024 records.
 pub const INDEX_WORDS: usize = 4096;

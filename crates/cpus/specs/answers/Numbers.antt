@@ -35,7 +35,7 @@ readingFrom (wanted.Mpidrs cells) props pool at =
     cond (isNumber (cellIn props pool (at DeviceType)) cpuCell) (numberOr 12 (affineOnly (valueIn props pool cells (at Reg)))) (numberOr 11 Invalid)
 readingFrom wanted.Phandles props pool at = numberOr 17 (phandleIn (cellIn props pool (at Phandle)))
 
--- record i, by a table of keys; and looked up in the property table
+-- record i, by an index of properties; and looked up in the property table
 abbrev pub readingAt : CpuNumbers → List ℕ → List ℕ → List ℕ → ℕ → CpuReading
 readingAt w props pool index i = readingFrom w props pool (indexedAt index i)
 

@@ -44,6 +44,6 @@ abbrev pub lookupIn : ℕ → Lookup
 lookupIn zero = Missing
 lookupIn (suc k) = At k
 
--- where the property that is a key of record i stands, by a table of keys
+-- where the property that is a key of record i stands, by an index of properties
 unfoldable pub indexedAt : List ℕ → ℕ → Key → Lookup
 indexedAt table i key = lookupIn (getD table (4 * i + keyNumber key) 0)

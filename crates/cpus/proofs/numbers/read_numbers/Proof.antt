@@ -6,7 +6,7 @@ use lib.ListN.{length}
 use lib.Seq.{length-take-le}
 use borrow.Author.Tests.{ltb-true, ltb-false}
 use Rattle.cpus.specs.answers.Numbers.{readingAt, repeatRule}
-use Rattle.cpus.proofs.GatherLaws.{Pass, pass-start, pass-length, pass-next, pass-told, pass-end}
+use Rattle.cpus.proofs.NumberPassLaws.{Pass, pass-start, pass-length, pass-next, pass-told, pass-end}
 use borrow.Author.Needs.{needs}
 use Rattle.cpus.proofs.numbers.read_numbers.Statement.{statement}
 use Rattle.cpus.proofs.numbers.read_numbers.Tie as tie
