@@ -1,4 +1,5 @@
 -- What the computed definitions mean, as facts about a board.
+pub mod NumberLaws
 pub mod NameFacts
 pub mod MapMeans
 pub mod MapTells

@@ -5,6 +5,7 @@ use mathlib.Core.List.{List}
 use Prim.Native.Nat.{ℕ, zero, suc, _<_}
 use native.Mathlib.Omega.{arith}
 use borrow.Author.Tests.{lt-ltb, le-leb}
+use Rattle.laws.proofs.DecideLaws.{Decides, decides-as}
 use Rattle.names.specs.declared.TopologyName.{TopologyName}
 use Rattle.names.specs.declared.TopologyName.the-variants.{Socket, Cluster, Core, Thread, Other}
 use Rattle.names.specs.facts.Kind.{Kind, Named}
@@ -17,7 +18,8 @@ use Rattle.tables.specs.facts.Binding.{cpusWord, mapWord}
 use Rattle.cpus.specs.facts.Rules.{CpuRule, SoundCpus}
 use Rattle.cpumap.specs.facts.Map.{OfKind}
 use Rattle.cpumap.specs.answers.Path.{topologyName}
-use Rattle.cpumap.specs.answers.Number.{kindNumber, topologyNumber}
+use Rattle.cpumap.specs.answers.Number.{kindNumber, topologyNumber, isNumbered}
+use Rattle.cpumap.proofs.NumberLaws.{numbered-kind}
 
 -- a kind's number tells the kind
 abbrev kindFrom : ℕ → Kind
@@ -111,6 +113,13 @@ module _ (b : Board) (well : WellFormed b) where
   topology-other i lt =
       let t = other-means (nodeName b i) in
       (λ e kind p. t .0 (sym (topology-name i lt) ∙ e) kind (p .0) (p .1), λ none. topology-name i lt ∙ t .1 (λ kind n p. none kind (n, p)))
+
+  -- a record has the number n exactly when its name is that of some kind with the number n
+  pub numbered-test : (i n : ℕ) → i < nodeCount (b .nodes) → Decides (isNumbered n (name i)) ((kind : Kind) × Named (nodeName b i) kind n)
+  numbered-test i n lt =
+      decides-as (numbered-kind (name i) n)
+      (λ t. (t .0, topology-is i (t .0) n lt .0 (t .1)))
+      (λ t. (t .0, topology-is i (t .0) n lt .1 (t .1)))
 
   pub topology-says : (i : ℕ) → i < nodeCount (b .nodes) → Says b i (name i)
   topology-says i lt = go (name i) refl

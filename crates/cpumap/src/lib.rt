@@ -1,12 +1,14 @@
 // The cpu map: its place, rules 15 and 16; what its records' names say; and where a record stands: its socket and clusters.
 mod find;
 mod number;
+mod numbered;
 mod path;
 mod positions;
 
 pub use find::find_map;
 pub use number::kind_number;
 pub use number::topology_number;
+pub use numbered::has_number;
 pub use path::topology_name;
 pub use positions::position_of;
 

@@ -10,9 +10,7 @@ use borrow.Author.Tests.{eq-eqb, eqb-true}
 use Rattle.laws.specs.answers.Fault.{firstFault}
 use Rattle.laws.specs.answers.Search.{anyBelow, countBelow, listBelow, isAmong}
 use Rattle.laws.specs.answers.Listed.{laidOver, faultOfMember}
-use Rattle.laws.proofs.SearchLaws.{any-at, any-place}
-use Rattle.laws.proofs.TestLaws.{both-true}
-use Rattle.laws.proofs.DecideLaws.{Decides}
+use Rattle.laws.proofs.DecideLaws.{Decides, then-decides, any-decides}
 use Rattle.laws.proofs.OrElseLaws.{told-number}
 use Rattle.laws.proofs.GatherLaws.{gathered-seen, first-same}
 use Rattle.laws.proofs.ListedLaws.{list-before, first-listed}
@@ -91,16 +89,6 @@ module _ (p : ℕ → Bool) (r : ℕ → CpuReading) (rule : ℕ) where
       ((j : ℕ) → j < i → gatherFault p r rule j ≡ 0) →
       ((j : ℕ) → r j .number ≡ 0 → Decides (eqb (r j .value) (r i .value)) (P j)) →
       Decides (anyBelow (λ j. cond (p j) (eqb (r j .value) (r i .value)) false) i) ((j : ℕ) × (j < i) × ((p j ≡ true) × P j))
-  seen-decides {P} i none same = (there, here)
-    where
-      test : ℕ → Bool
-      test j = cond (p j) (eqb (r j .value) (r i .value)) false
-
-      there : anyBelow test i ≡ true → (j : ℕ) × (j < i) × ((p j ≡ true) × P j)
-      there e =
-          let t = any-place test i e in
-          let s = both-true (p (t .0)) (t .2) in
-          (t .0, t .1, (s .0, same (t .0) (sound-reading (t .0) (s .0) (none (t .0) (t .1))) .0 (s .1)))
-
-      here : (j : ℕ) × (j < i) × ((p j ≡ true) × P j) → anyBelow test i ≡ true
-      here (j, lt, (e, h)) = any-at test j i lt (rw e (same j (sound-reading j e (none j lt)) .1 h))
+  seen-decides {P} i none same =
+      any-decides (λ j. cond (p j) (eqb (r j .value) (r i .value)) false) i
+      (λ j lt. then-decides (λ e. e, λ e. e) (λ e. same j (sound-reading j e (none j lt))))

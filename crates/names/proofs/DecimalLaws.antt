@@ -83,6 +83,14 @@ decimal-shape =
       λ p e. ih .2 (omega arith) (sym (List·getD-append ds ((48 + n % 10) ∷ []) 0 0 (ih .0)) ∙ e),
     ))
 
+-- the last digit
+pub decimal-ends : (n : ℕ) → (front : List ℕ) × (decimal n ≡ front ++ ((48 + n % 10) ∷ []))
+decimal-ends n =
+    ⊎-elim
+    (λ lt. let small : n % 10 ≡ n = omega arith in ([], decimal-one 3 n lt ∙ rw small))
+    (λ le. (decimalIn 3 (n / 10), decimal-more 3 n le))
+    (lt-or-le n 10)
+
 -- digits of such a shape are read one after the other
 number-digits : (ds : List ℕ) → 0 < length ds → length ds ≤ 4 → (getD ds 0 0 ≡ 48 → ⊥) → numberOf ds ≡ digitsFrom 0 ds
 unfolding numberOf

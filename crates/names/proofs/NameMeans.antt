@@ -1,8 +1,8 @@
 -- What the name reader answers, as facts about the name's bytes. Assumes nothing.
 use mathlib.Core.Path.{_≡_, refl, sym, ap, _∙_}
 use mathlib.Core.Logic.{_⊎_, inl, inr, ⊎-elim}
-use mathlib.Core.List.{List}
-use Prim.Native.Nat.{ℕ}
+use mathlib.Core.List.{List, [], _∷_, _++_, append-assoc}
+use Prim.Native.Nat.{ℕ, _+_, _%_}
 use Rattle.names.specs.declared.TopologyName.{TopologyName}
 use Rattle.names.specs.declared.TopologyName.the-variants.{Socket, Cluster, Core, Thread, Other}
 use Rattle.names.specs.declared.Number.{Number}
@@ -10,7 +10,7 @@ use Rattle.names.specs.declared.Number.the-variants.{Decimal, NotDecimal
 use Rattle.names.specs.facts.Kind.{Kind, word, Named, Says}
 use Rattle.names.specs.answers.Name.{namedAs, withNumber, nameOf}
 use Rattle.names.specs.steps.Name.{numberAfter}
-use Rattle.names.proofs.DecimalLaws.{not-is}
+use Rattle.names.proofs.DecimalLaws.{not-is, decimal-ends}
 use Rattle.names.proofs.WordLaws.{kindOf, name-is}
 use Rattle.names.proofs.AfterLaws.{after-named, named-name}
 
@@ -79,6 +79,12 @@ other-means name = (
 -- a name gives one kind and one number
 pub named-unique : {name : List ℕ} {k j : Kind} {n m : ℕ} → Named name k n → Named name j m → (k ≡ j) × (n ≡ m)
 named-unique {name} {k} {j} {n} {m} p q = answered-same k j n m (sym (named-name p) ∙ named-name q)
+
+-- a name ends in the last digit of its number
+pub named-ends : {name : List ℕ} {kind : Kind} {n : ℕ} → Named name kind n → (front : List ℕ) × (name ≡ front ++ ((48 + n % 10) ∷ []))
+named-ends {name} {kind} {n} p =
+    let t = decimal-ends n in
+    (word kind ++ t .0, p .bytes ∙ ap (λ (digits : List ℕ). word kind ++ digits) (t .1) ∙ sym (append-assoc (word kind) (t .0) ((48 + n % 10) ∷ [])))
 
 -- what the reader says of a name
 pub name-says : {name : List ℕ} {r : TopologyName} → r ≡ nameOf name → (r ≡ nameOf name) × Says name r

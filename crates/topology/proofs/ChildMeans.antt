@@ -1,34 +1,36 @@
 -- What the tests of children decide. Assumes nothing.
-use mathlib.Core.Path.{_≡_, sym, _∙_}
+use mathlib.Core.Path.{_≡_, sym, ap, _∙_}
 use mathlib.Core.Bool.{false}
 use mathlib.Core.Logic.{_↔_}
 use mathlib.Core.List.{List}
-use Prim.Native.Nat.{ℕ, _+_, _<_}
+use Prim.Native.Nat.{ℕ, _+_}
 use native.Mathlib.Numerals.{add-one}
 use lib.ListN.{length}
-use Rattle.laws.specs.answers.Search.{countBelow, listBelow}
+use Rattle.laws.specs.answers.Search.{listBelow}
 use Rattle.laws.specs.facts.Listing.{Listing}
 use Rattle.laws.proofs.SearchLaws.{list-length}
 use Rattle.laws.proofs.ListingLaws.{listed, listing-unique}
 use Rattle.laws.proofs.DecideLaws.{Decides, decides-as, decides-not}
+use Rattle.tables.specs.facts.Board.{nodeCount}
 use Rattle.tables.specs.facts.Tree.{Child}
 use Rattle.tables.proofs.DepthLaws.{DepthFirst, first-child}
 use Rattle.tables.specs.answers.Tree.{isChild}
 use Rattle.tables.proofs.DecideLaws.{child-test}
 use Rattle.topology.specs.answers.Check.{hasChild}
+use Rattle.topology.specs.answers.Siblings.{childCount}
 
 module _ (nodes : List ℕ) where
-  -- the children of p before record i, and how many there are
-  pub earlier-children : (p i : ℕ) → Listing (λ j. Child nodes p j × (j < i)) (listBelow (isChild nodes p) i)
-  earlier-children p i =
-      listed (isChild nodes p) i
-      (λ j t. (t .1, child-test nodes p j .1 (t .0)))
-      (λ j lt e. (child-test nodes p j .0 e, lt))
+  -- the children of p, and how many there are
+  pub children-listing : (p : ℕ) → Listing (Child nodes p) (listBelow (isChild nodes p) (nodeCount nodes))
+  children-listing p =
+      listed (isChild nodes p) (nodeCount nodes)
+      (λ j c. (c .inside, child-test nodes p j .1 c))
+      (λ j _ e. child-test nodes p j .0 e)
 
-  pub earlier-count :
-      (p i : ℕ) (earlier : List ℕ) → Listing (λ j. Child nodes p j × (j < i)) earlier → countBelow (isChild nodes p) i ≡ length earlier
-  earlier-count p i earlier h =
-      sym (list-length (isChild nodes p) i) ∙ rw (listing-unique (listBelow (isChild nodes p) i) earlier (earlier-children p i) h)
+  pub children-count : (p : ℕ) (children : List ℕ) → Listing (Child nodes p) children → childCount nodes p ≡ length children
+  children-count p children h =
+      sym (list-length (isChild nodes p) (nodeCount nodes))
+      ∙ ap length (listing-unique (listBelow (isChild nodes p) (nodeCount nodes)) children (children-listing p) h)
 
   module _ (depth : DepthFirst nodes) where
     -- in a depth-first table the first child of i is the record after it

@@ -7,27 +7,15 @@ use native.Mathlib.Omega.{arith}
 use lib.Dec.{eqb, ltb}
 use borrow.Author.Tests.{le-ltb, eq-eqb, ne-eqb}
 use Rattle.laws.specs.answers.Fault.{orNumber}
-use Rattle.laws.specs.answers.Search.{countBelow}
 use Rattle.names.specs.declared.TopologyName.{TopologyName}
 use Rattle.tables.specs.facts.Board.{nodeCount, parentWord}
 use Rattle.tables.specs.answers.Tree.{isChild, isBelow}
 use Rattle.tables.specs.facts.Tree.{Child, Ancestor}
 use Rattle.tables.proofs.TreeLaws.{below-ancestor}
 use Rattle.cpumap.specs.answers.Path.{topologyName}
-use Rattle.cpumap.specs.answers.Number.{kindNumber}
-use Rattle.topology.specs.answers.Check.{hasChild, kindFault, numberFault, shapeFault, isLeafName, mapRecordFault, shape, mapRecordShape}
-use Rattle.laws.proofs.PassLaws.{count-none}
-
--- the records up to p are no children of p
-pub no-children : (nodes : List ℕ) (p : ℕ) → countBelow (isChild nodes p) (p + 1) ≡ 0
-unfolding isChild
-no-children nodes p =
-    count-none (isChild nodes p) (p + 1) (λ k lt. go (ltb k (nodeCount nodes)) (eqb (parentWord nodes k) p) (ltb p k) (le-ltb p k (omega arith)))
-  where
-    go : (a b c : Bool) → c ≡ false → cond a (cond b c false) false ≡ false
-    go true true c h = h
-    go true false c h = refl
-    go false b c h = refl
+use Rattle.cpumap.specs.answers.Number.{kindNumber, topologyNumber}
+use Rattle.topology.specs.answers.Check.{hasChild, kindFault, shapeFault, isLeafName, mapRecordFault, shape, mapRecordShape}
+use Rattle.topology.specs.answers.Siblings.{numberFault}
 
 -- a record below another is in the table and has an earlier parent
 pub below-later : (nodes : List ℕ) (a i : ℕ) → isBelow nodes i a ≡ true → (i < nodeCount nodes) × (parentWord nodes i < i)
@@ -50,12 +38,12 @@ pub named-fault :
     (nodes pool : List ℕ) (map i : ℕ) (name : TopologyName) {p : ℕ} →
     (kindNumber name ≡ 0 → ⊥) →
     p ≡ parentWord nodes i →
-    orNumber (kindFault nodes pool map p name) (orNumber (numberFault nodes p i name) (shapeFault nodes pool p i name))
+    orNumber (kindFault nodes pool map p name) (orNumber (numberFault nodes pool p i (topologyNumber name)) (shapeFault nodes pool p i name))
     ≡ mapRecordFault nodes pool map i name
 unfolding mapRecordFault
 named-fault nodes pool map i name ne e =
     rw (ne-eqb (kindNumber name) 0 ne)
-    (ap (λ (q : ℕ). orNumber (kindFault nodes pool map q name) (orNumber (numberFault nodes q i name) (shapeFault nodes pool q i name))) e)
+    (ap (λ (q : ℕ). orNumber (kindFault nodes pool map q name) (orNumber (numberFault nodes pool q i (topologyNumber name)) (shapeFault nodes pool q i name))) e)
 
 -- the shape of a record below the map with a given name
 module _

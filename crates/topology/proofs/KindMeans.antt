@@ -29,8 +29,9 @@ use Rattle.cpumap.specs.facts.Map.{Map, InMap, OfKind}
 use Rattle.cpumap.specs.answers.Path.{topologyName}
 use Rattle.topology.specs.facts.Rules.{TopologyRule, Allowed, FirstChild}
 use Rattle.cpumap.specs.answers.Number.{kindNumber}
-use Rattle.topology.specs.answers.Check.{allowedUnder, allowedInMap, kindFault, numberFault, shapeFault, mapRecordFault}
-use Rattle.cpumap.proofs.NameFacts.{Says, topology-says, topology-is, topology-cases, is-unique, kinds-apart}
+use Rattle.topology.specs.answers.Check.{allowedUnder, allowedInMap, kindFault, shapeFault, mapRecordFault}
+use Rattle.topology.specs.answers.Siblings.{numberFault}
+use Rattle.cpumap.proofs.NameFacts.{Says, topology-says, topology-is, topology-cases, is-unique, kinds-apart, number-answered}
 use Rattle.cpumap.proofs.NameFacts.{kind-number-same, kind-number-of, kind-number-some, map-nameless}
 use Rattle.cpumap.proofs.MapMeans.{map-unique, in-map-below}
 use Rattle.cpumap.proofs.WithinMeans.{child-has, within-above, above-within}
@@ -134,9 +135,9 @@ module _ (b : Board) (well : WellFormed b) (m : ℕ) (map : Map b m) where
       let p = parentWord (b .nodes) i in
       mapRecordFault (b .nodes) (b .pool) m i (namedAs kind n)
       ≡ orNumber (kindFault (b .nodes) (b .pool) m p (namedAs kind n))
-      (orNumber (numberFault (b .nodes) p i (namedAs kind n)) (shapeFault (b .nodes) (b .pool) p i (namedAs kind n)))
+      (orNumber (numberFault (b .nodes) (b .pool) p i n) (shapeFault (b .nodes) (b .pool) p i (namedAs kind n)))
   unfolding mapRecordFault
-  fault-named i kind n = rw (ne-eqb (kindNumber (namedAs kind n)) 0 (kind-number-some kind n))
+  fault-named i kind n = rw (ne-eqb (kindNumber (namedAs kind n)) 0 (kind-number-some kind n), number-answered kind n)
 
   -- a sound record has a kind that is allowed under its parent
   abbrev Placed : ℕ → Type 0

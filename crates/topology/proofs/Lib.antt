@@ -1,5 +1,6 @@
 -- What the computed definitions mean, as facts about a board.
 pub mod ChildMeans
+pub mod SiblingLaws
 pub mod RuleCases
 pub mod KindMeans
 pub mod RecordMeans

@@ -8,30 +8,32 @@ use native.Mathlib.Omega.{arith}
 use lib.ListN.{length}
 use Rattle.laws.specs.answers.Fault.{orNumber}
 use Rattle.laws.specs.facts.Listing.{Listing}
-use Rattle.laws.specs.answers.Search.{countBelow, listBelow}
+use Rattle.laws.specs.answers.Search.{anyBelow, listBelow}
 use Rattle.laws.proofs.SearchLaws.{lt-or-le, list-length}
 use Rattle.laws.proofs.ListingLaws.{listing-unique}
 use Rattle.laws.proofs.LeastLaws.{Tested, Least, least-low, least-one, least-then}
-use Rattle.laws.proofs.DecideLaws.{eq-decides, lt-decides}
+use Rattle.laws.proofs.DecideLaws.{Decides, lt-decides, then-decides, without-decides, any-decides, holds-unless}
 use Rattle.laws.proofs.TestedLaws.{tested-unless}
 use Rattle.names.specs.declared.TopologyName.{TopologyName}
 use Rattle.names.specs.declared.TopologyName.the-variants.{Other}
 use Rattle.names.specs.facts.Kind.{Kind, Named}
 use Rattle.names.specs.answers.Name.{namedAs}
 use Rattle.names.proofs.NameMeans.{named-unique}
-use Rattle.tables.specs.facts.Board.{Board, nodeName, parentWord}
+use Rattle.tables.specs.facts.Board.{Board, nodeCount, nodeName, parentWord}
 use Rattle.tables.specs.facts.Tree.{Child}
 use Rattle.wellformed.specs.facts.Rules.{WellFormed}
+use Rattle.tables.proofs.DecideLaws.{child-test}
 use Rattle.tables.proofs.DepthLaws.{child-unique}
 use Rattle.wellformed.proofs.WellFormedLaws.{wf-depth}
 use Rattle.tables.specs.answers.Tree.{isChild}
 use Rattle.cpumap.specs.facts.Map.{Map, InMap, OfKind, ClusterAbove}
 use Rattle.cpumap.specs.answers.Path.{topologyName, clusterPath}
 use Rattle.topology.specs.facts.Rules.{TopologyRule, Childless}
-use Rattle.cpumap.specs.answers.Number.{kindNumber, topologyNumber}
-use Rattle.topology.specs.answers.Check.{groupFault, depthFault, numberFault, shapeFault, mapRecordFault}
-use Rattle.topology.proofs.ChildMeans.{earlier-children, earlier-count, has-child-test}
-use Rattle.cpumap.proofs.NameFacts.{topology-cases, kinds-apart, number-answered}
+use Rattle.cpumap.specs.answers.Number.{kindNumber}
+use Rattle.topology.specs.answers.Check.{groupFault, depthFault, shapeFault, mapRecordFault}
+use Rattle.topology.specs.answers.Siblings.{holdsNumber, childCount, isFree, numberFault}
+use Rattle.topology.proofs.ChildMeans.{children-listing, children-count, has-child-test}
+use Rattle.cpumap.proofs.NameFacts.{topology-cases, kinds-apart, numbered-test}
 use Rattle.topology.proofs.RuleCases.{deep-cluster, childless}
 use Rattle.cpumap.proofs.MapMeans.{in-map-below, map-not-below}
 use Rattle.cpumap.proofs.PathMeans.{clusterList, clusters-listing, depth-below}
@@ -67,23 +69,45 @@ module _
     child : Child (b .nodes) over i
     child = parent-of (in-map-below b m map i in-map)
 
-    -- rule 21
-    number-tested : (kind : Kind) (n : ℕ) → Named (nodeName b i) kind n → Tested 21 (Rule 21) (numberFault (b .nodes) over i (namedAs kind n))
-    unfolding numberFault
-    number-tested kind n named = tested-unless keeps breaks (eq-decides (topologyNumber (namedAs kind n)) count)
+    -- rule 21: an earlier sibling has the number, or there are not more siblings than it says
+    abbrev Taken : ℕ → Type 0
+    Taken n = (j : ℕ) × (j < i) × (Child (b .nodes) over j × ((kind : Kind) × Named (nodeName b j) kind n))
+
+    abbrev count : ℕ
+    count = childCount (b .nodes) over
+
+    taken-test : (n : ℕ) → Decides (anyBelow (holdsNumber (b .nodes) (b .pool) over n) i) (Taken n)
+    taken-test n =
+        any-decides (holdsNumber (b .nodes) (b .pool) over n) i
+        (λ j _. then-decides (child-test (b .nodes) over j) (λ c. numbered-test b well j n (c .inside)))
+
+    free-test : (n : ℕ) → Decides (isFree (b .nodes) (b .pool) over i n) ((Taken n → ⊥) × (n < count))
+    unfolding isFree
+    free-test n = without-decides (taken-test n) (lt-decides n count)
+
+    number-tested : (kind : Kind) (n : ℕ) → Named (nodeName b i) kind n → Tested 21 (Rule 21) (numberFault (b .nodes) (b .pool) over i n)
+    number-tested kind n named = tested-unless keeps breaks (free-test n)
       where
-        count : ℕ
-        count = countBelow (isChild (b .nodes) over) i
+        keeps : (Taken n → ⊥) × (n < count) → Rule 21 → ⊥
+        keeps t (TopologyRule.cpuMapOrderHigh _ p m _ siblings _ c name l many) =
+            let size = children-count (b .nodes) over siblings (rw (child-unique c child) at l) in
+            let same = named-unique name named .1 in
+            omega (arith, t .1)
+        keeps t (TopologyRule.cpuMapOrderTaken _ j p m _ other _ c d before name earlier) =
+            t .0 (j, before, (rw (child-unique c child) at d, (other, rw (named-unique name named .1) at earlier)))
 
-        keeps : topologyNumber (namedAs kind n) ≡ count → Rule 21 → ⊥
-        keeps e (TopologyRule.cpuMapOrder _ p k j earlier _ c name l ne) =
-            let size : count ≡ length earlier = earlier-count (b .nodes) over i earlier (rw (child-unique c child) at l) in
-            ne (named-unique name named .1 ∙ sym (number-answered kind n) ∙ e ∙ size)
+        breaks : ((Taken n → ⊥) × (n < count) → ⊥) → Rule 21
+        breaks not-free = ⊎-elim taken high (lt-or-le n count)
+          where
+            taken : n < count → Rule 21
+            taken lt =
+                let t = holds-unless (taken-test n) (λ none. not-free (none, lt)) in
+                TopologyRule.cpuMapOrderTaken i (t .0) over n kind (t .2 .1 .0) in-map child (t .2 .0) (t .1) named (t .2 .1 .1)
 
-        breaks : (topologyNumber (namedAs kind n) ≡ count → ⊥) → Rule 21
-        breaks ne =
-            TopologyRule.cpuMapOrder i over n kind (listBelow (isChild (b .nodes) over) i) in-map child named (earlier-children (b .nodes) over i)
-            (λ e. ne (number-answered kind n ∙ e ∙ list-length (isChild (b .nodes) over) i))
+            high : count ≤ n → Rule 21
+            high le =
+                TopologyRule.cpuMapOrderHigh i over n kind (listBelow (isChild (b .nodes) over) (nodeCount (b .nodes))) in-map child named
+                (children-listing (b .nodes) over) (rw (list-length (isChild (b .nodes) over) (nodeCount (b .nodes))) le)
 
     -- rule 22, of a cluster alone
     abbrev above : List ℕ

@@ -26,7 +26,8 @@ module _ {b : Board} where
   staged (TopologyRule.cpuMapName _ t _) = below refl (omega arith) (omega arith) t
   staged (TopologyRule.cpuMapKind _ _ _ t _ _ _) = below refl (omega arith) (omega arith) t
   staged (TopologyRule.cpuMapKindMixed _ _ _ _ _ t _ _ _ _ _ _) = below refl (omega arith) (omega arith) t
-  staged (TopologyRule.cpuMapOrder _ _ _ _ _ t _ _ _ _) = below refl (omega arith) (omega arith) t
+  staged (TopologyRule.cpuMapOrderHigh _ _ _ _ _ t _ _ _ _) = below refl (omega arith) (omega arith) t
+  staged (TopologyRule.cpuMapOrderTaken _ _ _ _ _ _ t _ _ _ _ _) = below refl (omega arith) (omega arith) t
   staged (TopologyRule.cpuMapDepth _ _ t _ _ _) = below refl (omega arith) (omega arith) t
   staged (TopologyRule.cpuMapEmpty _ map _) = (refl, Place.theMap refl map)
   staged (TopologyRule.cpuMapEmptySocket _ t _ _) = below refl (omega arith) (omega arith) t

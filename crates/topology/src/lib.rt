@@ -2,6 +2,7 @@
 mod kind;
 mod record;
 mod shape;
+mod siblings;
 
 pub use record::record_shape;
 

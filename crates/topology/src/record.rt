@@ -3,10 +3,11 @@ use crate::RecordShape;
 use crate::kind::kind_fault;
 use crate::shape::group_fault;
 use crate::shape::has_child;
-use crate::shape::number_fault;
 use crate::shape::shape_fault;
+use crate::siblings::number_fault;
 use cpumap::kind_number;
 use cpumap::topology_name;
+use cpumap::topology_number;
 use laws::rules;
 use names::TopologyName;
 use tables::is_below;
@@ -33,7 +34,7 @@ fn map_record_fault(nodes: &[u32], pool: &[u8], map: usize, i: usize, name: Topo
     if number != 0 {
         return number;
     }
-    let number = number_fault(nodes, p, i, name);
+    let number = number_fault(nodes, pool, p, i, topology_number(name));
     if number != 0 {
         return number;
     }

@@ -1,15 +1,11 @@
-// Numbers of siblings, depth of clusters and groups without children: rules 21 to 23.
+// Depth of clusters and groups without children: rules 22 and 23.
 use cpumap::position_of;
-use cpumap::topology_number;
 use laws::rules;
 use names::TopologyName;
 use tables::is_child;
 ghost use mathlib.Core.Path.{_≡_};
-ghost use Prim.Native.Nat.{_<_};
 ghost use Rattle.laws.specs.answers.Fault.{orNumber};
-ghost use Rattle.laws.specs.answers.Search.{countBelow};
-ghost use Rattle.tables.specs.answers.Tree.{isChild};
-ghost use Rattle.topology.specs.answers.Check.{hasChild, numberFault, groupFault, depthFault, shapeFault};
+ghost use Rattle.topology.specs.answers.Check.{hasChild, groupFault, depthFault, shapeFault};
 
 // Whether the record after i is its child. In a depth-first table: whether i has children.
 pub fn has_child(nodes: &[u32], i: usize) -> bool
@@ -19,33 +15,6 @@ pub fn has_child(nodes: &[u32], i: usize) -> bool
         return false;
     }
     is_child(nodes, i, i + 1)
-}
-
-// How many children record p has before record i. They come after p.
-fn count_children(nodes: &[u32], p: usize, i: usize) -> usize
-    requires { ⌜ p < i ⌝ }
-    ensures { λ r. ⌜ r ≡ countBelow (isChild (now (nodes .entry)) p) i ⌝ }
-{
-    let mut count: usize = 0;
-    let mut j = p + 1;
-    while j < i {
-        if is_child(nodes, p, j) {
-            count += 1;
-        }
-        j += 1;
-    }
-    count
-}
-
-// 21 where the number in the name of record i, a child of p, is not the number of p's children before it; or 0.
-pub fn number_fault(nodes: &[u32], p: usize, i: usize, name: TopologyName) -> u32
-    requires { ⌜ p < i ⌝ }
-    ensures { λ r. ⌜ r ≡ numberFault (now (nodes .entry)) p i name ⌝ }
-{
-    if topology_number(name) as usize == count_children(nodes, p, i) {
-        return 0;
-    }
-    rules::CPU_MAP_ORDER
 }
 
 // 23 where record i has no children, or 0.

@@ -1,5 +1,7 @@
 -- A topology name's kind and number, as numbers.
+use mathlib.Core.Bool.{Bool, false, cond}
 use Prim.Native.Nat.{ℕ}
+use lib.Dec.{eqb}
 use Rattle.names.specs.declared.TopologyName.{TopologyName}
 use Rattle.names.specs.declared.TopologyName.the-variants.{Socket, Cluster, Core, Thread, Other}
 
@@ -17,3 +19,7 @@ topologyNumber (Cluster n) = n
 topologyNumber (Core n) = n
 topologyNumber (Thread n) = n
 topologyNumber Other = 0
+
+-- whether a name is a topology name with the number n
+abbrev pub isNumbered : ℕ → TopologyName → Bool
+isNumbered n name = cond (eqb (kindNumber name) 0) false (eqb (topologyNumber name) n)

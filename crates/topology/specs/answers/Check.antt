@@ -3,7 +3,6 @@ use mathlib.Core.Bool.{Bool, true, false, cond}
 use mathlib.Core.List.{List}
 use Prim.Native.Nat.{ℕ, _+_}
 use lib.Dec.{eqb, ltb}
-use Rattle.laws.specs.answers.Search.{countBelow}
 use Rattle.laws.specs.answers.Fault.{orNumber}
 use Rattle.names.specs.declared.TopologyName.{TopologyName}
 use Rattle.names.specs.declared.TopologyName.the-variants.{Socket, Cluster, Core, Thread, Other}
@@ -12,6 +11,7 @@ use Rattle.tables.specs.facts.Board.{parentWord}
 use Rattle.cpumap.specs.answers.Path.{topologyName, clusterPath}
 use Rattle.cpumap.specs.answers.Number.{kindNumber, topologyNumber}
 use Rattle.topology.specs.declared.RecordShape.{RecordShape}
+use Rattle.topology.specs.answers.Siblings.{numberFault}
 
 -- whether the record after i is its child; in a depth-first table, whether i has children
 unfoldable pub hasChild : List ℕ → ℕ → Bool
@@ -52,10 +52,6 @@ kindFault nodes pool map p name =
     (cond (eqb (kindNumber name) (kindNumber (topologyName nodes pool (p + 1)))) 0 20)
     20
 
--- rule 21 of record i under parent p
-unfoldable pub numberFault : List ℕ → ℕ → ℕ → TopologyName → ℕ
-numberFault nodes p i name = cond (eqb (topologyNumber name) (countBelow (isChild nodes p) i)) 0 21
-
 -- rule 23, and 22 of a cluster under parent p
 abbrev pub groupFault : List ℕ → ℕ → ℕ
 groupFault nodes i = cond (hasChild nodes i) 0 23
@@ -84,7 +80,7 @@ unfoldable pub mapRecordFault : List ℕ → List ℕ → ℕ → ℕ → Topolo
 mapRecordFault nodes pool map i name =
     cond (eqb (kindNumber name) 0) 19
     (orNumber (kindFault nodes pool map (parentWord nodes i) name)
-    (orNumber (numberFault nodes (parentWord nodes i) i name) (shapeFault nodes pool (parentWord nodes i) i name)))
+    (orNumber (numberFault nodes pool (parentWord nodes i) i (topologyNumber name)) (shapeFault nodes pool (parentWord nodes i) i name)))
 
 -- what a record breaks of 18 to 23, 0 where nothing, and whether it is a leaf
 abbrev pub shape : ℕ → Bool → RecordShape

@@ -43,13 +43,22 @@ pub data TopologyRule (b : Board) : ℕ → ℕ → Type 0 where
       OfKind b first f →
       (kind ≡ first → ⊥) →
       TopologyRule b 20 i
-  cpuMapOrder :
-      (i p n : ℕ) (kind : Kind) (earlier : List ℕ) →
+  cpuMapOrderHigh :
+      (i p n : ℕ) (kind : Kind) (siblings : List ℕ) →
       InMap b i →
       Child (b .nodes) p i →
       Named (nodeName b i) kind n →
-      Listing (λ j. Child (b .nodes) p j × (j < i)) earlier →
-      (n ≡ length earlier → ⊥) →
+      Listing (Child (b .nodes) p) siblings →
+      length siblings ≤ n →
+      TopologyRule b 21 i
+  cpuMapOrderTaken :
+      (i j p n : ℕ) (kind other : Kind) →
+      InMap b i →
+      Child (b .nodes) p i →
+      Child (b .nodes) p j →
+      j < i →
+      Named (nodeName b i) kind n →
+      Named (nodeName b j) other n →
       TopologyRule b 21 i
   cpuMapDepth :
       (i : ℕ) (above : List ℕ) →

@@ -1,5 +1,5 @@
 -- `map_record_fault` meets its contract: 19, and else the first of 20 to 23. Assumes nothing.
-use mathlib.Core.Path.{_≡_, sym, _∙_}
+use mathlib.Core.Path.{_≡_, sym, ap, _∙_}
 use Prim.Native.Nat.{_*_}
 use native.Mathlib.Omega.{arith}
 use borrow.Author.Tests.{eq-eqb}
@@ -8,7 +8,9 @@ use Rattle.laws.specs.answers.Fault.{orNumber}
 use Rattle.laws.proofs.PassLaws.{or-told, or-next}
 use Rattle.tables.specs.facts.Board.{parentWord}
 use Rattle.tables.proofs.CodePool.{word-zero}
-use Rattle.topology.specs.answers.Check.{kindFault, numberFault, shapeFault, mapRecordFault}
+use Rattle.cpumap.specs.answers.Number.{topologyNumber}
+use Rattle.topology.specs.answers.Check.{kindFault, shapeFault, mapRecordFault}
+use Rattle.topology.specs.answers.Siblings.{numberFault}
 use Rattle.topology.proofs.CodeLaws.{named-fault}
 use Rattle.topology.proofs.record.map_record_fault.Statement.{statement}
 use Rattle.topology.proofs.record.map_record_fault.Tie as tie
@@ -23,7 +25,7 @@ rest :
     let a = c .before .before .before .before .before .args in
     let p = c .node-word .result in
     orNumber (kindFault (a .nodes .now) (a .pool .now) (a .map) p (a .name))
-    (orNumber (numberFault (a .nodes .now) p (a .i) (a .name)) (shapeFault (a .nodes .now) (a .pool .now) p (a .i) (a .name)))
+    (orNumber (numberFault (a .nodes .now) (a .pool .now) p (a .i) (topologyNumber (a .name))) (shapeFault (a .nodes .now) (a .pool .now) p (a .i) (a .name)))
     ≡ mapRecordFault (a .nodes .now) (a .pool .now) (a .map) (a .i) (a .name)
 rest c =
     let a = c .before .before .before .before .before .args in
@@ -50,22 +52,36 @@ returns-2 c =
     let word = c .before .before in
     let a = word .before .before .before .before .before .args in
     let p = word .node-word .result in
-    or-told (orNumber (numberFault (a .nodes .now) p (a .i) (a .name)) (shapeFault (a .nodes .now) (a .pool .now) p (a .i) (a .name)))
+    or-told (orNumber (numberFault (a .nodes .now) (a .pool .now) p (a .i) (topologyNumber (a .name))) (shapeFault (a .nodes .now) (a .pool .now) p (a .i) (a .name)))
     (c .before .kind-fault .ensures) (c .if2 .taken)
     ∙ rest word
 
+topology-number-requires : tie.Need-topology-number-requires
+topology-number-requires c κs = search needs
+
 number-fault-requires : tie.Need-number-fault-requires
 number-fault-requires c κs =
-    let word = c .before .before in
-    omega (arith, word .before .before .before .before .before .pre .1, parent word)
+    let word = c .before .before .before in
+    let start = word .before .before .before .before .before in
+    record { inside = start .pre .0; word = sym (parent word); earlier = rw (parent word) (start .pre .1) }
+
+-- the number of the name is the one tested
+number-told :
+    (c : tie.After-number-fault) →
+    let word = c .before .before .before .before in
+    let a = word .before .before .before .before .before .args in
+    c .number-fault .result ≡ numberFault (a .nodes .now) (a .pool .now) (word .node-word .result) (a .i) (topologyNumber (a .name))
+number-told c =
+    let word = c .before .before .before .before in
+    let a = word .before .before .before .before .before .args in
+    c .number-fault .ensures ∙ ap (numberFault (a .nodes .now) (a .pool .now) (word .node-word .result) (a .i)) (c .before .topology-number .ensures)
 
 returns-3 : tie.Need-returns-3
 returns-3 c =
-    let word = c .before .before .before .before in
+    let word = c .before .before .before .before .before in
     let a = word .before .before .before .before .before .args in
-    or-next (c .before .before .before .kind-fault .ensures) (c .before .before .if2 .left)
-    (or-told (shapeFault (a .nodes .now) (a .pool .now) (word .node-word .result) (a .i) (a .name))
-    (c .before .number-fault .ensures) (c .if3 .taken))
+    or-next (c .before .before .before .before .kind-fault .ensures) (c .before .before .before .if2 .left)
+    (or-told (shapeFault (a .nodes .now) (a .pool .now) (word .node-word .result) (a .i) (a .name)) (number-told (c .before)) (c .if3 .taken))
     ∙ rest word
 
 shape-fault-requires : tie.Need-shape-fault-requires
@@ -74,9 +90,9 @@ shape-fault-requires c κs = search needs
 returns-4 : tie.Need-returns-4
 returns-4 c =
     let number = c .before .before in
-    let kind = number .before .before in
-    or-next (kind .kind-fault .ensures) (number .before .if2 .left)
-    (or-next (number .number-fault .ensures) (c .before .if3 .left) (c .shape-fault .ensures))
+    let kind = number .before .before .before in
+    or-next (kind .kind-fault .ensures) (number .before .before .if2 .left)
+    (or-next (number-told number) (c .before .if3 .left) (c .shape-fault .ensures))
     ∙ rest (kind .before)
 
 pub map-record-fault-spec : {M : Type 1} → statement M
@@ -88,6 +104,7 @@ map-record-fault-spec =
     node-word-requires
     kind-fault-requires
     returns-2
+    topology-number-requires
     number-fault-requires
     returns-3
     shape-fault-requires
