@@ -126,17 +126,39 @@ fn place(tables: &Tables, refusal: Refusal) -> String {
     }
 }
 
-/// Sizes that help where a limit is passed.
-fn size(tables: &Tables, number: u32) -> String {
-    match number {
+/// What stands there and what would be right, where that helps.
+fn details(tables: &Tables, refusal: Refusal) -> String {
+    match refusal.number {
         2 => format!(" ({} nodes)", tables.node_count()),
         3 => format!(" ({} properties)", tables.property_count()),
         4 => format!(" ({} bytes)", tables.pool.len()),
+        21 => format!(" ({})", sibling_number(tables, refusal.place)),
         _ => String::new(),
     }
 }
 
-/// `ERROR 21 (cpu_map_order): /cpus/cpu-map/cluster0/core6: sentence`
+/// The digits at the end of a topology name.
+fn digits(name: &str) -> &str {
+    name.trim_start_matches(|c: char| !c.is_ascii_digit())
+}
+
+/// For 21: the number is that of an earlier sibling, or else too high for the count of siblings.
+fn sibling_number(tables: &Tables, record: u32) -> String {
+    let name = tables.name(record);
+    let siblings = tables.siblings(record);
+    let same_number = |&other: &u32| digits(&tables.name(other)) == digits(&name);
+    let earlier = siblings.iter().position(same_number);
+    match (earlier, siblings.len()) {
+        (Some(at), count) if siblings[at] < record => {
+            let child = at + 1;
+            format!("{name}, the number of an earlier sibling, child {child} of {count}")
+        }
+        (_, 1) => format!("{name}, an only child"),
+        (_, count) => format!("{name}, of {count} siblings"),
+    }
+}
+
+/// `ERROR 21 (cpu_map_order): /cpus/cpu-map/cluster0/core6: sentence (core6, of 6 siblings)`
 pub fn describe(tables: &Tables, refusal: Refusal) -> String {
     let (check, sentence) = match messages::find(refusal.number) {
         Some(message) => (message.check, message.sentence),
@@ -146,6 +168,63 @@ pub fn describe(tables: &Tables, refusal: Refusal) -> String {
         "ERROR {} ({check}): {}: {sentence}{}",
         refusal.number,
         place(tables, refusal),
-        size(tables, refusal.number)
+        details(tables, refusal)
     )
+}
+
+#[cfg(test)]
+mod tests {
+    use super::*;
+    use crate::fdt::NO_PARENT;
+
+    /// Describes 21 at the last of some children of a cluster; others follow.
+    fn told(names: &[&str], others: &[&str]) -> String {
+        let mut tables = Tables::default();
+        let root = tables.add_node(NO_PARENT, b"cpus");
+        let map = tables.add_node(root, b"cpu-map");
+        let cluster = tables.add_node(map, b"cluster0");
+        let mut place = cluster;
+        for name in names {
+            place = tables.add_node(cluster, name.as_bytes());
+        }
+        for name in others {
+            tables.add_node(cluster, name.as_bytes());
+        }
+        tables.add_node(root, b"cpu@0");
+        describe(&tables, Refusal { number: 21, place })
+    }
+
+    fn ends_with(message: &str, end: &str) {
+        assert!(message.ends_with(end), "{message}");
+    }
+
+    #[test]
+    fn number_too_high() {
+        let message = told(&["core0", "core1", "core4"], &["core2"]);
+        let expected = "ERROR 21 (cpu_map_order): /cpus/cpu-map/cluster0/core4: \
+            siblings must have the numbers from 0 to one less than their count, each once, \
+            in any order (core4, of 4 siblings)";
+        assert_eq!(message, expected);
+        ends_with(&told(&["core2"], &["core2"]), " (core2, of 2 siblings)");
+        ends_with(&told(&["core9999"], &["x"]), " (core9999, of 2 siblings)");
+        ends_with(&told(&["core1"], &[]), " (core1, an only child)");
+    }
+
+    #[test]
+    fn number_repeated() {
+        let message = told(&["core0", "core1", "core1"], &["core2"]);
+        let expected = " (core1, the number of an earlier sibling, child 2 of 4)";
+        ends_with(&message, expected);
+        let message = told(&["core10", "core1", "core0", "core10"], &[]);
+        let expected = " (core10, the number of an earlier sibling, child 1 of 4)";
+        ends_with(&message, expected);
+    }
+
+    #[test]
+    fn no_details_for_other_numbers() {
+        let mut tables = Tables::default();
+        let place = tables.add_node(NO_PARENT, b"cpus");
+        let message = describe(&tables, Refusal { number: 15, place });
+        assert_eq!(message, "ERROR 15 (cpu_map_missing): /cpus: no cpu-map");
+    }
 }

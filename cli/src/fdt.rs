@@ -14,7 +14,7 @@ const PROP: u32 = 3;
 const NOP: u32 = 4;
 const END: u32 = 9;
 
-const NO_PARENT: u32 = u32::MAX;
+pub(crate) const NO_PARENT: u32 = u32::MAX;
 
 /// Node words, property words and pool, as the library takes them.
 #[derive(Debug, Default)]
@@ -39,7 +39,7 @@ impl Tables {
     }
 
     /// Adds a node and gives its record number.
-    fn add_node(&mut self, parent: u32, name: &[u8]) -> u32 {
+    pub(crate) fn add_node(&mut self, parent: u32, name: &[u8]) -> u32 {
         let record = (self.nodes.len() / 3) as u32;
         let [offset, length] = self.add_bytes(name);
         self.nodes.extend([parent, offset, length]);
@@ -71,6 +71,13 @@ impl Tables {
     pub fn parent(&self, record: u32) -> Option<u32> {
         let parent = self.nodes[3 * record as usize];
         (parent != NO_PARENT).then_some(parent)
+    }
+
+    /// The records with the same parent, the record itself among them.
+    pub fn siblings(&self, record: u32) -> Vec<u32> {
+        let parent = self.parent(record);
+        let all = 0..self.node_count() as u32;
+        all.filter(|&other| self.parent(other) == parent).collect()
     }
 
     pub fn name(&self, record: u32) -> String {
@@ -339,6 +346,18 @@ mod tests {
         assert_eq!(tables.pool, b"cpusreg\0\0\0\x07cpu");
         assert_eq!(tables.path(1), "/cpus/cpu");
         assert_eq!(tables.property_name(0), "reg");
+    }
+
+    #[test]
+    fn siblings_have_the_same_parent() {
+        let mut tables = Tables::default();
+        for parent in [NO_PARENT, 0, 1, 1, 3, 1, 0] {
+            tables.add_node(parent, b"x");
+        }
+        assert_eq!(tables.siblings(0), [0]);
+        assert_eq!(tables.siblings(1), [1, 6]);
+        assert_eq!(tables.siblings(3), [2, 3, 5]);
+        assert_eq!(tables.siblings(4), [4]);
     }
 
     #[test]

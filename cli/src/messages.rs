@@ -103,7 +103,7 @@ pub const MESSAGES: [Message; 31] = [
     message(
         21,
         "cpu_map_order",
-        "the number is not the count of nodes before it under the same parent",
+        "siblings must have the numbers from 0 to one less than their count, each once, in any order",
     ),
     message(
         22,

@@ -50,7 +50,7 @@ fn run_on_input(arguments: &[&str], input: &[u8]) -> Output {
 }
 
 /// Accepted boards, with the number of processors and the hash line.
-const ACCEPTED: [(&str, usize, &str); 8] = [
+const ACCEPTED: [(&str, usize, &str); 9] = [
     (
         "example1",
         16,
@@ -75,6 +75,11 @@ const ACCEPTED: [(&str, usize, &str); 8] = [
     ),
     ("sparse-hash", 2, "hash: mask 0x5, shifts 0 5 13 29, bits 3"),
     ("real-life", 4, "hash: mask 0x101, shifts 0 7 14 30, bits 2"),
+    (
+        "vendor-order",
+        4,
+        "hash: mask 0x101, shifts 0 7 14 30, bits 2",
+    ),
 ];
 
 /// Refused boards, with number, check name and path.
@@ -234,6 +239,51 @@ cluster0/core1 cpu@0   0x0   -      0       1    -      0
 hash: mask 0x100, shifts 0 8 15 31, bits 1
 ";
     assert_eq!(text(&output.stdout), expected);
+}
+
+/// Rows stand in the order of the leaves, so clusters and cores fall.
+#[test]
+fn table_of_the_vendor_order() {
+    let output = run(&[&board("vendor-order")]);
+    let expected = "\
+LEAF           CPU     MPIDR SOCKET CLUSTER CORE THREAD SLOT
+cluster1/core1 cpu@101 0x101 -      1       1    -      3
+cluster1/core0 cpu@100 0x100 -      1       0    -      2
+cluster0/core1 cpu@1   0x1   -      0       1    -      1
+cluster0/core0 cpu@0   0x0   -      0       0    -      0
+hash: mask 0x101, shifts 0 7 14 30, bits 2
+";
+    assert_eq!(text(&output.stdout), expected);
+}
+
+/// The sentence of 21, before the details.
+const NUMBERS: &str = "siblings must have the numbers from 0 to one less than their count, \
+                       each once, in any order";
+
+#[test]
+fn message_of_a_gap() {
+    let file = board("refused-21-order");
+    let output = run(&[&file]);
+    let expected = format!(
+        "{file}: ERROR 21 (cpu_map_order): /cpus/cpu-map/cluster0/core6: \
+         {NUMBERS} (core6, of 6 siblings)\n"
+    );
+    assert_eq!(text(&output.stderr), expected);
+}
+
+/// A blob with `core0` twice, which dtc does not make of a source.
+#[test]
+fn message_of_a_repeated_number() {
+    let mut bytes = blob("whole-case");
+    let name = bytes.windows(6).position(|window| window == b"core1\0");
+    bytes[name.expect("the name is there") + 4] = b'0';
+    let output = run_on_input(&["-"], &bytes);
+    assert_eq!(output.status.code(), Some(1));
+    let expected = format!(
+        "-: ERROR 21 (cpu_map_order): /cpus/cpu-map/cluster0/core0: \
+         {NUMBERS} (core0, the number of an earlier sibling, child 1 of 2)\n"
+    );
+    assert_eq!(text(&output.stderr), expected);
 }
 
 #[test]

@@ -3,6 +3,7 @@
 use sunderwath_tests::answer::{Answer, ANSWER_WORDS, SHORT_ANSWER};
 use sunderwath_tests::build::faults::{self, rename, with_faults, Fault};
 use sunderwath_tests::build::mix::{any_board, large_board};
+use sunderwath_tests::build::order::{self, children_named};
 use sunderwath_tests::build::shapes::{fill_up, regular_board, valid_board};
 use sunderwath_tests::build::small::{maps_in_order, maps_with_choices};
 use sunderwath_tests::build::worked::{self, cores, cpu_node, cpus_node, group, leaf, nested};
@@ -337,6 +338,124 @@ fn several_faults_at_one_record() {
     let mut root = faults::base();
     root.at(18).children.push(Node::new("x"));
     expect(64, &root, 19, 19);
+}
+
+/// Rows stand in leaf record order, whatever the order of the numbers.
+#[test]
+fn siblings_out_of_order() {
+    let (answer, rows) = agreed(&Board::of(64, &order::cores_swapped()));
+    let expected = [
+        [3, 6, 0, 0x100, GAP, 0, GAP, GAP, GAP, 1, GAP, 1],
+        [4, 5, 0, 0, GAP, 0, GAP, GAP, GAP, 0, GAP, 0],
+    ];
+    assert_eq!((answer.number, answer.count), (0, 2));
+    assert_eq!(rows, expected.as_flattened());
+    let (answer, rows) = agreed(&Board::of(32, &order::threads_swapped()));
+    let expected = [
+        [5, 8, 0, 0, 0, 0, GAP, GAP, GAP, 0, 1, 0],
+        [6, 9, 0, 1, 0, 0, GAP, GAP, GAP, 0, 0, 1],
+        [7, 10, 0, 2, 0, 0, GAP, GAP, GAP, 1, GAP, 2],
+    ];
+    assert_eq!((answer.number, answer.count), (0, 3));
+    assert_eq!(rows, expected.as_flattened());
+    let column = |width, root: &Node, word: usize| {
+        let (answer, rows) = agreed(&Board::of(width, root));
+        assert_eq!(answer.number, 0);
+        let words = rows.chunks(12).map(|row| (row[0], row[word]));
+        words.collect::<Vec<_>>()
+    };
+    let clusters = [3, 4, 5, 6].map(|leaf| (leaf, 1));
+    let others = [8, 9, 10, 11].map(|leaf| (leaf, 0));
+    let expected = [clusters, others].concat();
+    assert_eq!(column(32, &order::clusters_swapped(), 5), expected);
+    let expected = [(7, 1), (8, 1), (9, 1), (11, 1), (18, 0)];
+    assert_eq!(column(64, &order::sockets_swapped(), 4), expected);
+}
+
+fn reverse(node: &mut Node) {
+    node.children.reverse();
+    node.children.iter_mut().for_each(reverse);
+}
+
+/// Example 1 with all siblings of the map in falling order: the same rows, the last first.
+#[test]
+fn siblings_out_of_order_on_all_levels() {
+    let (answer, rows) = agreed(&Board::of(64, &worked::example_1()));
+    let mut root = worked::example_1();
+    reverse(root.at(1));
+    let (reversed_answer, reversed_rows) = agreed(&Board::of(64, &root));
+    assert_eq!(reversed_answer, answer);
+    let mut leaf = 0;
+    for (row, falling) in rows.chunks(12).rev().zip(reversed_rows.chunks(12)) {
+        assert_eq!(row[1..], falling[1..]);
+        assert!(falling[0] > leaf);
+        leaf = falling[0];
+    }
+}
+
+/// One cluster whose children have these names, from record 3 on.
+fn expect_of(names: &str, number: u32, place: usize) {
+    let names: Vec<&str> = names.split(' ').collect();
+    expect(64, &children_named(&names), number, place);
+}
+
+/// A number that is not below the count of siblings, wherever it stands.
+#[test]
+fn sibling_numbers_too_high() {
+    expect_of("core0 core1 core2 core3 core6 core7", 21, 7);
+    expect_of("core2 core0", 21, 3);
+    expect_of("core0 core2", 21, 4);
+    expect_of("core1", 21, 3);
+    expect_of("core0 core9999 core1", 21, 4);
+    expect_of("core3 core1 core2", 21, 3);
+    // One less than the count.
+    expect_of("core2 core0 core1", 0, 0);
+    expect_of("core1 core2 core0", 0, 0);
+    expect_of("core0", 0, 0);
+    let falling: Vec<String> = (0..256).rev().map(|n| format!("core{n}")).collect();
+    expect_of(&falling.join(" "), 0, 0);
+}
+
+#[test]
+fn repeated_sibling_numbers() {
+    expect_of("core0 core1 core1 core2", 21, 5);
+    expect_of("core1 core1", 21, 4);
+    expect_of("core0 core0", 21, 4);
+    expect_of("core1 core1 core0", 21, 4);
+    expect_of("core2 core0 core2 core1", 21, 5);
+    expect_of("core2 core1 core0 core1 core0", 21, 6);
+    // The repeat stands before the number that is too high.
+    expect_of("core0 core0 core3", 21, 4);
+    expect_of("core0 core3 core0", 21, 4);
+    // The same numbers under another parent are no repeats.
+    expect(32, &worked::example_2(), 0, 0);
+    let mut root = order::clusters_swapped();
+    rename(&mut root, 7, "cluster1");
+    expect(32, &root, 21, 7);
+    let mut root = order::sockets_swapped();
+    rename(&mut root, 12, "socket1");
+    expect(64, &root, 21, 12);
+    let mut root = order::threads_swapped();
+    rename(&mut root, 6, "thread1");
+    expect(32, &root, 21, 6);
+}
+
+/// Siblings without a topology name, and of another kind, are counted too.
+#[test]
+fn siblings_of_all_sorts() {
+    expect_of("core1 x", 19, 4);
+    expect_of("x core1", 19, 3);
+    expect_of("core2 x core0", 19, 4);
+    expect_of("core2 x", 21, 3);
+    expect_of("core0 x core0", 19, 4);
+    // core1 passes 21: cluster0 is its sibling, and 20 is told there.
+    expect_of("core1 cluster0", 20, 4);
+    // An earlier sibling of another kind has the number: 20 before 21.
+    expect_of("core0 cluster0", 20, 4);
+    expect_of("core0 cluster0 core0", 20, 4);
+    let mut mixed = worked::cluster_beside_core();
+    rename(&mut mixed, 5, "core0");
+    expect(64, &mixed, 20, 5);
 }
 
 /// The map before, after and below other nodes; second maps everywhere.

@@ -1,6 +1,7 @@
 //! What the program `cases` runs, each with a label: boards, lists and names.
 
 use super::faults::{faults, with_faults};
+use super::order::{self, children_named};
 use super::shapes::{fill_up, regular_board};
 use super::worked::{self, cores, leaf, nested};
 use super::{cell, Board, Node};
@@ -65,7 +66,14 @@ fn case(label: &str, width: u32, root: &Node) -> Case {
 
 /// All boards, in the order in which they are run.
 pub fn boards() -> Vec<Case> {
-    let groups = [worked_boards(), allowed(), slips(), limits(), rules()];
+    let groups = [
+        worked_boards(),
+        allowed(),
+        slips(),
+        limits(),
+        rules(),
+        orders(),
+    ];
     groups.into_iter().flatten().collect()
 }
 
@@ -187,4 +195,33 @@ fn rules() -> Vec<Case> {
         (label, with_faults(&[&fault]))
     });
     std::iter::once(sound).chain(broken).collect()
+}
+
+/// Siblings in any order, and numbers that are refused in each.
+fn orders() -> Vec<Case> {
+    let named = |label, names: &[&str]| case(label, 64, &children_named(names));
+    let swapped = |label, width, root| case(label, width, &root);
+    vec![
+        swapped("W1 core1 before core0", 64, order::cores_swapped()),
+        swapped("W1 clusters out of order", 32, order::clusters_swapped()),
+        swapped("W1 sockets out of order", 64, order::sockets_swapped()),
+        swapped(
+            "W1 a thread pair out of order",
+            32,
+            order::threads_swapped(),
+        ),
+        named(
+            "W1 a gap: core0 to core3, core6, core7",
+            &["core0", "core1", "core2", "core3", "core6", "core7"],
+        ),
+        named(
+            "W1 a repeated number: core0, core1, core1, core2",
+            &["core0", "core1", "core1", "core2"],
+        ),
+        named(
+            "W1 a number of the count of siblings: core2, core0",
+            &["core2", "core0"],
+        ),
+        named("W1 core1 beside a nameless sibling", &["core1", "x"]),
+    ]
 }

@@ -48,7 +48,7 @@ const PROPS: [&str; 10] = [
 /// One change to a tree.
 pub fn spoil_tree(rng: &mut Rng, root: &mut Node) {
     let record = rng.below(root.count());
-    match rng.below(15) {
+    match rng.below(16) {
         0 | 1 => root.at(record).name = rng.pick(&NAMES).as_bytes().to_vec(),
         2 => remove_property(rng, root.at(record)),
         3 | 4 => spoil_value(rng, root.at(record)),
@@ -61,6 +61,7 @@ pub fn spoil_tree(rng: &mut Rng, root: &mut Node) {
         11 => insert_node(rng, root.at(record)),
         12 => copy_value(rng, root),
         13 => wrap_children(rng, root),
+        14 => renumber_sibling(rng, root),
         _ => renumber(rng, root.at(record)),
     }
 }
@@ -189,6 +190,33 @@ fn renumber(rng: &mut Rng, node: &mut Node) {
     if let Some(last) = node.name.last_mut() {
         *last = b'0' + rng.below(10) as u8;
     }
+}
+
+/// Gives a node the number of a sibling, or one around the count of siblings.
+fn renumber_sibling(rng: &mut Rng, root: &mut Node) {
+    let all = 1..root.count();
+    let parents: Vec<usize> = all
+        .filter(|&record| !root.at(record).children.is_empty())
+        .collect();
+    if parents.is_empty() {
+        return;
+    }
+    let siblings = &mut root.at(*rng.pick(&parents)).children;
+    let count = siblings.len();
+    let number = match rng.below(4) {
+        0 => count - 1,
+        1 => count,
+        2 => count + 1,
+        _ => rng.below(count),
+    };
+    set_number(&mut siblings[rng.below(count)].name, number);
+}
+
+fn set_number(name: &mut Vec<u8>, number: usize) {
+    while name.last().is_some_and(u8::is_ascii_digit) {
+        name.pop();
+    }
+    name.extend(number.to_string().bytes());
 }
 
 /// One change to the tables: words, bytes, lengths, offsets.

@@ -225,16 +225,17 @@ fn of_map() -> Vec<Row> {
             "a cluster beside a core",
             Tree(|r| rename(r, 9, "cluster1")),
         ),
+        (21, 9, "core1 after core1", Tree(|r| rename(r, 6, "core1"))),
         (
             21,
             12,
-            "socket2 after socket0",
+            "socket2 as one of two sockets",
             Tree(|r| rename(r, 12, "socket2")),
         ),
         (
             21,
             16,
-            "cluster1 as the first child",
+            "cluster1 as the only child",
             Tree(|r| rename(r, 16, "cluster1")),
         ),
         (

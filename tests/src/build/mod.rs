@@ -5,6 +5,7 @@ pub mod cases;
 pub mod damage;
 pub mod faults;
 pub mod mix;
+pub mod order;
 pub mod shapes;
 pub mod shrink;
 pub mod small;

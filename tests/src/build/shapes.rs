@@ -59,6 +59,7 @@ fn split(rng: &mut Rng, budget: usize, parts: usize) -> Vec<usize> {
     shares
 }
 
+/// Siblings of a kind, each number from 0 up once.
 fn numbered(
     rng: &mut Rng,
     kind: &str,
@@ -72,7 +73,16 @@ fn numbered(
         children: fill(rng, share),
         ..Node::new(format!("{kind}{number}"))
     };
-    shares.into_iter().enumerate().map(build).collect()
+    let siblings = shares.into_iter().enumerate().map(build).collect();
+    some_order(rng, siblings)
+}
+
+/// In half of the cases in the order of their numbers, otherwise in any order.
+fn some_order(rng: &mut Rng, mut siblings: Vec<Node>) -> Vec<Node> {
+    if rng.one_in(2) {
+        rng.shuffle(&mut siblings);
+    }
+    siblings
 }
 
 fn map_children(rng: &mut Rng, budget: usize) -> Vec<Node> {
@@ -101,7 +111,8 @@ fn cores(rng: &mut Rng, budget: usize) -> Vec<Node> {
     numbered(rng, "core", budget, 64, |rng, share| {
         let threads = share > 1 || smt == 2 || smt == 1 && rng.one_in(2);
         let most = if threads { share } else { 0 };
-        (0..most).map(|n| Node::new(format!("thread{n}"))).collect()
+        let siblings = (0..most).map(|n| Node::new(format!("thread{n}")));
+        some_order(rng, siblings.collect())
     })
 }
 

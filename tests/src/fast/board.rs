@@ -267,7 +267,8 @@ impl<'a> Reader<'a> {
         listed && kind == above.first_kind
     }
 
-    /// 18 to 25 of one record; `earlier` counts the siblings before it.
+    /// 18 to 25 of one record; `earlier` is the count of siblings before it if these
+    /// stand in the order of their numbers from 0, and NONE otherwise.
     fn check_record(&mut self, record: usize, earlier: u32) -> u32 {
         let fact = self.facts[record];
         let group = matches!(fact.kind, Kind::Map | Kind::Socket | Kind::Cluster);
@@ -284,7 +285,9 @@ impl<'a> Reader<'a> {
             19
         } else if !self.kind_allowed(fact.kind, above) {
             20
-        } else if fact.number != earlier {
+        } else if fact.number != earlier
+            && (fact.number >= above.children || self.number_taken(record))
+        {
             21
         } else if fact.kind == Kind::Cluster && fact.clusters > 3 {
             22
@@ -295,6 +298,13 @@ impl<'a> Reader<'a> {
         } else {
             0
         }
+    }
+
+    /// Whether an earlier sibling has the number. Rule 19 holds of them all, so each has one.
+    fn number_taken(&self, record: usize) -> bool {
+        let Node { parent, number, .. } = self.facts[record];
+        let mut before = self.facts[parent as usize + 1..record].iter();
+        before.any(|other| other.parent == parent && other.number == number)
     }
 
     /// 24 and 25.
@@ -320,9 +330,11 @@ impl<'a> Reader<'a> {
     fn check_map(&mut self) -> Result<(), Answer> {
         let mut earlier = vec![0; self.facts.len()];
         for record in 1..self.facts.len() {
-            let parent = self.facts[record].parent as usize;
-            match self.check_record(record, earlier[parent]) {
-                0 => earlier[parent] += 1,
+            let fact = self.facts[record];
+            let earlier = &mut earlier[fact.parent as usize];
+            match self.check_record(record, *earlier) {
+                0 if fact.number == *earlier => *earlier += 1,
+                0 => *earlier = NONE,
                 number => return Err(Answer::refusal(number, record)),
             }
         }

@@ -85,7 +85,7 @@ pub fn breaks(t: &Tables, number: u32, place: usize) -> bool {
         18 => t.map() != Some(place) && !t.in_map(place) && t.kind(place).is_some(),
         19 => t.in_map(place) && t.kind(place).is_none(),
         20 => t.in_map(place) && !kind_allowed(t, place),
-        21 => t.in_map(place) && out_of_sequence(t, place),
+        21 => t.in_map(place) && (number_too_high(t, place) || number_taken(t, place)),
         22 => t.in_map(place) && nested_too_deep(t, place),
         23 => empty_group(t, place),
         24 => t.is_leaf(place) && t.cpu_of(place).is_none(),
@@ -186,9 +186,24 @@ fn kind_allowed(t: &Tables, record: usize) -> bool {
     kinds_under(t, parent).contains(&kind) && t.kind(first) == Some(kind)
 }
 
-fn out_of_sequence(t: &Tables, record: usize) -> bool {
-    let earlier = (1..record).filter(|&r| t.parent(r) == t.parent(record));
-    t.topology(record).map(|(_, number)| number as usize) != Some(earlier.count())
+fn number(t: &Tables, record: usize) -> Option<u32> {
+    t.topology(record).map(|(_, number)| number)
+}
+
+/// The records with the same parent, earlier and later ones and the record itself.
+fn siblings<'t>(t: &'t Tables, record: usize) -> &'t [usize] {
+    t.parent(record).map_or(&[], |parent| t.children(parent))
+}
+
+/// The number is not below the count of siblings.
+fn number_too_high(t: &Tables, record: usize) -> bool {
+    number(t, record).is_some_and(|number| number as usize >= siblings(t, record).len())
+}
+
+/// The number equals that of an earlier sibling, of whatever kind.
+fn number_taken(t: &Tables, record: usize) -> bool {
+    let mut earlier = siblings(t, record).iter().filter(|&&other| other < record);
+    number(t, record).is_some_and(|own| earlier.any(|&other| number(t, other) == Some(own)))
 }
 
 fn nested_too_deep(t: &Tables, record: usize) -> bool {
