@@ -146,7 +146,7 @@ enum sunderwath_number {
     SUNDERWATH_CPU_MAP_NAME = 19,
     /* kind not allowed under its parent; record */
     SUNDERWATH_CPU_MAP_KIND = 20,
-    /* number is not the count of earlier siblings; record */
+    /* number not below the count of siblings, or an earlier sibling's; record */
     SUNDERWATH_CPU_MAP_ORDER = 21,
     /* more than four nested clusters; record */
     SUNDERWATH_CPU_MAP_DEPTH = 22,

@@ -57,7 +57,7 @@ pub const CPU_MAP_NAME: u32 = 19;
 // A record below the map has a kind that its parent or its parent's first child does not allow.
 pub const CPU_MAP_KIND: u32 = 20;
 
-// The number in a name is not the number of earlier siblings.
+// The number in a name is not below the number of siblings, itself counted, or an earlier sibling has it.
 pub const CPU_MAP_ORDER: u32 = 21;
 
 // A cluster has four clusters above it.

@@ -43,7 +43,11 @@ pub named-fault :
 unfolding mapRecordFault
 named-fault nodes pool map i name ne e =
     rw (ne-eqb (kindNumber name) 0 ne)
-    (ap (λ (q : ℕ). orNumber (kindFault nodes pool map q name) (orNumber (numberFault nodes pool q i (topologyNumber name)) (shapeFault nodes pool q i name))) e)
+    (ap
+    (λ (q : ℕ).
+    orNumber (kindFault nodes pool map q name)
+    (orNumber (numberFault nodes pool q i (topologyNumber name)) (shapeFault nodes pool q i name)))
+    e)
 
 -- the shape of a record below the map with a given name
 module _

@@ -3,6 +3,7 @@
 
 use std::hint::black_box;
 use sunderwath_tests::answer::ANSWER_WORDS;
+use sunderwath_tests::build::order::reverse_siblings;
 use sunderwath_tests::build::shapes::{fill_up, regular_board};
 use sunderwath_tests::build::{Board, Node, FULL_ROOM};
 use sunderwath_tests::timing::best_ns;
@@ -122,6 +123,9 @@ fn main() {
     for (cpus, calls) in [(4, 2000), (16, 500), (64, 50), (256, 5)] {
         measure(&format!("{cpus} cpus"), &regular_board(cpus), calls);
     }
+    let mut falling = regular_board(256);
+    reverse_siblings(&mut falling.children[0]);
+    measure("256 cpus, falling", &falling, 5);
     let mut worst = regular_board(256);
     fill_up(&mut worst, 1024, 4096);
     measure("256 cpus, full tables", &worst, 2);

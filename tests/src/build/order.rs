@@ -31,6 +31,12 @@ pub fn threads_swapped() -> Node {
     renamed(worked::lone_socket(), [(5, "thread1"), (6, "thread0")])
 }
 
+/// Turns the order of siblings around, on all levels below a node.
+pub fn reverse_siblings(node: &mut Node) {
+    node.children.reverse();
+    node.children.iter_mut().for_each(reverse_siblings);
+}
+
 /// A cluster whose children have these names, from record 3 on. Each names a cpu.
 pub fn children_named(names: &[&str]) -> Node {
     let mpidrs: Vec<u64> = (0..names.len() as u64).collect();

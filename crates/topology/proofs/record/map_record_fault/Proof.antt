@@ -25,7 +25,8 @@ rest :
     let a = c .before .before .before .before .before .args in
     let p = c .node-word .result in
     orNumber (kindFault (a .nodes .now) (a .pool .now) (a .map) p (a .name))
-    (orNumber (numberFault (a .nodes .now) (a .pool .now) p (a .i) (topologyNumber (a .name))) (shapeFault (a .nodes .now) (a .pool .now) p (a .i) (a .name)))
+    (orNumber (numberFault (a .nodes .now) (a .pool .now) p (a .i) (topologyNumber (a .name)))
+    (shapeFault (a .nodes .now) (a .pool .now) p (a .i) (a .name)))
     ≡ mapRecordFault (a .nodes .now) (a .pool .now) (a .map) (a .i) (a .name)
 rest c =
     let a = c .before .before .before .before .before .args in
@@ -52,7 +53,9 @@ returns-2 c =
     let word = c .before .before in
     let a = word .before .before .before .before .before .args in
     let p = word .node-word .result in
-    or-told (orNumber (numberFault (a .nodes .now) (a .pool .now) p (a .i) (topologyNumber (a .name))) (shapeFault (a .nodes .now) (a .pool .now) p (a .i) (a .name)))
+    or-told
+    (orNumber (numberFault (a .nodes .now) (a .pool .now) p (a .i) (topologyNumber (a .name)))
+    (shapeFault (a .nodes .now) (a .pool .now) p (a .i) (a .name)))
     (c .before .kind-fault .ensures) (c .if2 .taken)
     ∙ rest word
 
