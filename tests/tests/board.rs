@@ -372,17 +372,12 @@ fn siblings_out_of_order() {
     assert_eq!(column(64, &order::sockets_swapped(), 4), expected);
 }
 
-fn reverse(node: &mut Node) {
-    node.children.reverse();
-    node.children.iter_mut().for_each(reverse);
-}
-
 /// Example 1 with all siblings of the map in falling order: the same rows, the last first.
 #[test]
 fn siblings_out_of_order_on_all_levels() {
     let (answer, rows) = agreed(&Board::of(64, &worked::example_1()));
     let mut root = worked::example_1();
-    reverse(root.at(1));
+    order::reverse_siblings(root.at(1));
     let (reversed_answer, reversed_rows) = agreed(&Board::of(64, &root));
     assert_eq!(reversed_answer, answer);
     let mut leaf = 0;
