@@ -2,7 +2,7 @@
 use mathlib.Core.Path.{_≡_, refl, sym, ap, _∙_}
 use mathlib.Core.Bool.{Bool, true, false, cond}
 use mathlib.Core.List.{List, [], _∷_, _++_}
-use Prim.Native.Nat.{ℕ, _+_, _-_, _%_, _≤_, _<_}
+use Prim.Native.Nat.{ℕ, _+_, _-_, _%_, _≤_}
 use native.Mathlib.Omega.{arith}
 use lib.Dec.{eqb, ltb, leb}
 use lib.ListN.{length, getD, drop, length-append}
@@ -87,9 +87,13 @@ module _ (nodes pool : List ℕ) (i n : ℕ) where
 
   -- the last byte read where the name lies inside the pool
   module _ {offset len : ℕ} (o : offset ≡ nameOffset nodes i) (l : len ≡ nameLength nodes i) (some : len ≡ 0 → ⊥) where
-    pub ends-inside : offset + len ≤ length pool → cond (eqb (getD pool (offset + len - 1) 0) (48 + n % 10)) false true ≡ endsOtherwise nodes pool i n
+    pub ends-same : offset + len ≤ length pool → getD pool (offset + len - 1) 0 ≡ 48 + n % 10 → false ≡ endsOtherwise nodes pool i n
     unfolding endsOtherwise
-    ends-inside inside = rw (← o, ← l, ne-eqb len 0 some, le-leb (offset + len) (length pool) inside)
+    ends-same inside e = rw (← o, ← l, ne-eqb len 0 some, le-leb (offset + len) (length pool) inside, eq-eqb _ _ e)
+
+    pub ends-other : offset + len ≤ length pool → (getD pool (offset + len - 1) 0 ≡ 48 + n % 10 → ⊥) → true ≡ endsOtherwise nodes pool i n
+    unfolding endsOtherwise
+    ends-other inside ne = rw (← o, ← l, ne-eqb len 0 some, le-leb (offset + len) (length pool) inside, ne-eqb _ _ ne)
 
     pub ends-outside : leb (offset + len) (length pool) ≡ false → false ≡ endsOtherwise nodes pool i n
     unfolding endsOtherwise

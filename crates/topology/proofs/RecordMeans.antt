@@ -1,6 +1,6 @@
 -- Rules 19 to 23 at a record below the map: the smallest that is broken is told.
 -- Assumes well-formed tables, no topology name of record 0, and sound earlier records.
-use mathlib.Core.Path.{_≡_, sym, _∙_}
+use mathlib.Core.Path.{_≡_}
 use mathlib.Core.Logic.{⊎-elim, _↔_}
 use mathlib.Core.List.{List}
 use Prim.Native.Nat.{ℕ, _≤_, _<_}

@@ -1,14 +1,12 @@
 -- `ends_otherwise` meets its contract: the name's last byte is read where the name lies inside the pool. Assumes nothing.
-use mathlib.Core.Path.{_≡_, sym, _∙_}
-use mathlib.Core.Bool.{true, false, cond}
-use Prim.Native.Nat.{_+_, _-_, _%_, _≤_}
+use mathlib.Core.Path.{sym, _∙_}
+use Prim.Native.Nat.{_+_, _-_, _≤_}
 use native.Mathlib.Omega.{arith}
-use lib.Dec.{eqb}
-use lib.ListN.{length, getD}
-use borrow.Author.Tests.{leb-true, eq-eqb, ne-eqb}
+use lib.ListN.{length}
+use borrow.Author.Tests.{leb-true}
 use borrow.Author.Needs.{needs}
 use Rattle.cpumap.specs.steps.LastDigit.{endsOtherwise}
-use Rattle.cpumap.proofs.NumberLaws.{ends-inside, ends-outside}
+use Rattle.cpumap.proofs.NumberLaws.{ends-same, ends-other, ends-outside}
 use Rattle.cpumap.proofs.numbered.ends_otherwise.Statement.{statement}
 use Rattle.cpumap.proofs.numbered.ends_otherwise.Tie as tie
 
@@ -17,16 +15,6 @@ inside :
     let words = c .before .before .before in
     words .before .node-word .result + words .node-word2 .result ≤ length (words .before .before .before .before .args .pool .now)
 inside c = leb-true _ _ (sym (c .before .is-inside .ensures) ∙ c .if2 .taken)
-
-read :
-    (c : tie.Then2) →
-    let words = c .before .before .before in
-    let a = words .before .before .before .before .args in
-    let last = words .before .node-word .result + words .node-word2 .result - 1 in
-    cond (eqb (getD (a .pool .now) last 0) (48 + a .n % 10)) false true ≡ endsOtherwise (a .nodes .now) (a .pool .now) (a .i) (a .n)
-read c =
-    let words = c .before .before .before in
-    ends-inside _ _ _ _ (words .before .node-word .ensures) (words .node-word2 .ensures) (c .before .before .if1 .left) (inside c)
 
 node-word-requires : tie.Need-node-word-requires
 node-word-requires c κs = search needs
@@ -59,10 +47,16 @@ add-if3 : tie.Need-add-if3
 add-if3 c = search needs
 
 returns-2 : tie.Need-returns-2
-returns-2 c = rw (eq-eqb _ _ (c .if3 .taken)) at (read (c .before .before))
+returns-2 c =
+    let then = c .before .before in
+    let words = then .before .before .before in
+    ends-same _ _ _ _ (words .before .node-word .ensures) (words .node-word2 .ensures) (then .before .before .if1 .left) (inside then) (c .if3 .taken)
 
 returns-3 : tie.Need-returns-3
-returns-3 c = rw (ne-eqb _ _ (c .if3 .left)) at (read (c .before .before))
+returns-3 c =
+    let then = c .before .before in
+    let words = then .before .before .before in
+    ends-other _ _ _ _ (words .before .node-word .ensures) (words .node-word2 .ensures) (then .before .before .if1 .left) (inside then) (c .if3 .left)
 
 returns-4 : tie.Need-returns-4
 returns-4 c =

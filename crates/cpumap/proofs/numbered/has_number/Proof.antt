@@ -2,7 +2,6 @@
 use mathlib.Core.Path.{sym, _∙_}
 use borrow.Author.Tests.{eq-eqb, ne-eqb}
 use borrow.Author.Needs.{needs}
-use Rattle.cpumap.specs.answers.Number.{kindNumber, topologyNumber}
 use Rattle.cpumap.proofs.NumberLaws.{ends-apart}
 use Rattle.cpumap.proofs.numbered.has_number.Statement.{statement}
 use Rattle.cpumap.proofs.numbered.has_number.Tie as tie
@@ -22,7 +21,7 @@ kind-number-requires c κs = search needs
 returns-2 : tie.Need-returns-2
 returns-2 c =
     let name = c .before .before in
-    rw (← name .topology-name .ensures, eq-eqb _ _ (sym (c .before .kind-number .ensures) ∙ c .if2 .taken))
+    rw (← name .topology-name .ensures, eq-eqb _ 0 (sym (c .before .kind-number .ensures) ∙ c .if2 .taken))
 
 topology-number-requires : tie.Need-topology-number-requires
 topology-number-requires c κs = search needs

@@ -1,6 +1,6 @@
 -- `is_free` meets its contract: what is known of the records before j settles it at a child that has the number, at child number n
 -- from i on, or at the end. Assumes nothing.
-use mathlib.Core.Path.{_≡_, sym, _∙_}
+use mathlib.Core.Path.{sym, _∙_}
 use mathlib.Core.Logic.{⊎-elim}
 use Prim.Native.Nat.{_-_}
 use native.Mathlib.Omega.{arith}
