@@ -8,7 +8,7 @@ use lib.Dec.{eqb}
 use lib.ListN.{getD}
 use Rattle.tables.specs.answers.Range.{rangeIs}
 use Rattle.tables.specs.facts.Board.{nameOffset, nameLength}
-use Rattle.tables.specs.answers.Lookup.{cellAt}
+use Rattle.tables.specs.facts.Property.{cellAt}
 use Rattle.tables.proofs.CodePool.{other-length}
 use Rattle.property_index.proofs.RangeLaws.{two-cells}
 use Rattle.tables.specs.facts.Binding.{mapWord}

@@ -10,7 +10,7 @@ use Rattle.laws.proofs.DecideLaws.{Decides, eq-decides, both-decides}
 use Rattle.affinity.specs.answers.Level.{isAffine}
 use Rattle.tables.specs.facts.Board.{range}
 use Rattle.tables.specs.facts.Property.{cellBytes}
-use Rattle.tables.specs.answers.Lookup.{cellAt}
+use Rattle.tables.specs.facts.Property.{cellAt}
 use Rattle.tables.proofs.CellLaws.{cell-bytes, cell-bytes-apart, cell-lt}
 use Rattle.cpus.specs.declared.Cells.{Cells}
 use Rattle.cpus.specs.declared.Cells.the-variants.{One, Two}

@@ -11,7 +11,7 @@ use borrow.Author.Tests.{lt-leb}
 use Rattle.laws.proofs.DecideLaws.{eq-decides}
 use Rattle.tables.specs.facts.Board.{range}
 use Rattle.tables.specs.answers.Range.{rangeIs}
-use Rattle.tables.specs.answers.Lookup.{cellAt}
+use Rattle.tables.specs.facts.Property.{cellAt}
 use Rattle.tables.proofs.CellLaws.{cell-is}
 use Rattle.tables.proofs.CodePool.{other-length}
 use Rattle.tables.specs.facts.Binding.{regKey, cpuKey, phandleKey, deviceTypeKey}

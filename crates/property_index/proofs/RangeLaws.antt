@@ -12,7 +12,7 @@ use borrow.Author.Tests.{leb-true}
 use Rattle.laws.proofs.DecideLaws.{Decides, both-decides, decides-not}
 use Rattle.tables.specs.answers.Range.{rangeIs}
 use Rattle.tables.specs.facts.Property.{cellBytes}
-use Rattle.tables.specs.answers.Lookup.{cellAt}
+use Rattle.tables.specs.facts.Property.{cellAt}
 use Rattle.tables.proofs.CellLaws.{cell-is}
 use Rattle.tables.proofs.DecideLaws.{range-decides}
 

@@ -14,7 +14,7 @@ use Rattle.laws.proofs.TestLaws.{false-unless}
 use Rattle.tables.specs.facts.Board.{range}
 use Rattle.tables.specs.answers.Range.{rangeIs}
 use Rattle.tables.specs.facts.Property.{cellBytes}
-use Rattle.tables.specs.answers.Lookup.{cellAt}
+use Rattle.tables.specs.facts.Property.{cellAt}
 
 -- the number of four bytes
 abbrev join : ℕ → ℕ → ℕ → ℕ → ℕ

@@ -13,7 +13,7 @@ use Rattle.laws.specs.answers.Same.{sameList}
 use Rattle.laws.proofs.SameLaws.{same-equal, same-length, same-step}
 use Rattle.tables.specs.facts.Board.{range}
 use Rattle.tables.specs.answers.Range.{rangeIs}
-use Rattle.tables.specs.answers.Lookup.{cellAt}
+use Rattle.tables.specs.facts.Property.{cellAt}
 
 -- field 0 of a record is its first word
 pub word-zero : (words : List ℕ) (start : ℕ) → getD words (start + 0) 0 ≡ getD words start 0

@@ -4,7 +4,7 @@ ghost use Prim.Native.Nat.{_+_, _*_};
 ghost use lib.Dec.{leb};
 ghost use Rattle.laws.specs.answers.Same.{sameList};
 ghost use Rattle.tables.specs.answers.Range.{rangeIs};
-ghost use Rattle.tables.specs.answers.Lookup.{cellAt};
+ghost use Rattle.tables.specs.facts.Property.{cellAt};
 
 // Whether two byte strings are equal, four bytes at a time as long as there are four. Names that begin alike often end
 // apart, so the last four are compared first.

@@ -8,7 +8,8 @@ use Rattle.affinity.specs.answers.Level.{isAffine}
 use Rattle.tables.specs.declared.Lookup.{Lookup}
 use Rattle.tables.specs.declared.Lookup.the-variants.{At, Missing}
 use Rattle.tables.specs.facts.Board.{valueOffset, valueLength}
-use Rattle.tables.specs.answers.Lookup.{lookup, cellAt}
+use Rattle.tables.specs.facts.Property.{cellAt}
+use Rattle.tables.specs.answers.Lookup.{lookup}
 use Rattle.cpus.specs.declared.Cells.{Cells}
 use Rattle.cpus.specs.declared.Cells.the-variants.{One, Two}
 use Rattle.cpus.specs.declared.Value.{Value}

@@ -1,9 +1,8 @@
--- Finding a property by name, and reading a cell.
+-- Finding a property by name.
 use mathlib.Core.Bool.{Bool, false, cond}
 use mathlib.Core.List.{List}
-use Prim.Native.Nat.{ℕ, _+_, _*_}
-use lib.Dec.{eqb, ltb, leb}
-use lib.ListN.{length, getD}
+use Prim.Native.Nat.{ℕ}
+use lib.Dec.{eqb, ltb}
 use Rattle.laws.specs.answers.Search.{lowest}
 use Rattle.tables.specs.declared.Lookup.{Lookup}
 use Rattle.tables.specs.declared.Lookup.the-variants.{At, Missing}
@@ -21,8 +20,3 @@ foundBelow n k = cond (ltb k n) (At k) Missing
 -- the lowest property record of record i with the name `key`
 unfoldable pub lookup : List ℕ → List ℕ → ℕ → List ℕ → Lookup
 lookup props pool i key = foundBelow (propCount props) (lowest (isProperty props pool i key) (propCount props))
-
--- the cell that starts at a byte of the pool, 0 where it leaves the pool
-unfoldable pub cellAt : List ℕ → ℕ → ℕ
-cellAt pool at =
-    cond (leb (at + 4) (length pool)) (getD pool at 0 * 16777216 + getD pool (at + 1) 0 * 65536 + getD pool (at + 2) 0 * 256 + getD pool (at + 3) 0) 0

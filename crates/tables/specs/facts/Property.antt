@@ -1,7 +1,10 @@
 -- Properties of a record, and cells (01, "The tables").
 use mathlib.Core.Path.{_≡_}
+use mathlib.Core.Bool.{cond}
 use mathlib.Core.List.{List, [], _∷_}
-use Prim.Native.Nat.{ℕ, _<_, _/_, _%_}
+use Prim.Native.Nat.{ℕ, _+_, _*_, _<_, _/_, _%_}
+use lib.Dec.{leb}
+use lib.ListN.{length, getD}
 use Rattle.tables.specs.facts.Board.{Board, Inside, propCount, propNode, keyOffset, keyLength, valueOffset, valueLength, propName, propValue}
 
 -- property record k is record i's and has the name `key`
@@ -21,3 +24,8 @@ pub record HasValue (b : Board) (i : ℕ) (key value : List ℕ) : Type 0 where
 -- a cell: four bytes, big-endian
 abbrev pub cellBytes : ℕ → List ℕ
 cellBytes w = w / 16777216 % 256 ∷ w / 65536 % 256 ∷ w / 256 % 256 ∷ w % 256 ∷ []
+
+-- the number of the cell that starts at a byte, 0 where the cell leaves the bytes
+unfoldable pub cellAt : List ℕ → ℕ → ℕ
+cellAt bytes at =
+    cond (leb (at + 4) (length bytes)) (getD bytes at 0 * 16777216 + getD bytes (at + 1) 0 * 65536 + getD bytes (at + 2) 0 * 256 + getD bytes (at + 3) 0) 0

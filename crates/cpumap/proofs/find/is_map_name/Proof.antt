@@ -5,7 +5,7 @@ use Prim.Native.Nat.{_+_, _*_}
 use native.Mathlib.Omega.{arith}
 use lib.Dec.{eqb}
 use borrow.Author.Tests.{eq-eqb, ne-eqb}
-use Rattle.tables.specs.answers.Lookup.{cellAt}
+use Rattle.tables.specs.facts.Property.{cellAt}
 use Rattle.cpumap.specs.answers.Find.{isMapName}
 use Rattle.cpumap.proofs.MapNameLaws.{other-name, name-cells}
 use borrow.Author.Needs.{needs}

@@ -7,7 +7,7 @@ use lib.Dec.{eqb}
 use borrow.Author.Tests.{eq-eqb, ne-eqb}
 use borrow.Author.Needs.{needs}
 use Rattle.tables.specs.answers.Range.{rangeIs}
-use Rattle.tables.specs.answers.Lookup.{cellAt}
+use Rattle.tables.specs.facts.Property.{cellAt}
 use Rattle.tables.specs.facts.Binding.{phandleKey}
 use Rattle.property_index.proofs.RangeLaws.{cell-inside}
 use Rattle.property_index.proofs.NameLaws.{phandle-cells}

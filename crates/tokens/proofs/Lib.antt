@@ -1,0 +1,4 @@
+-- Laws that belong to no one function.
+pub mod ZeroLaws
+pub mod StringLaws
+pub mod TokenLaws

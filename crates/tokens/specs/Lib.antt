@@ -1,0 +1,3 @@
+-- What the contracts of `tokens` cite, and the tokens of a structure block as facts.
+pub mod facts
+pub mod answers
