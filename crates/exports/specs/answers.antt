@@ -3,3 +3,4 @@ pub mod Answer
 pub mod Board
 pub mod List
 pub mod Tables
+pub mod Flat

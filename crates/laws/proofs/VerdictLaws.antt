@@ -15,6 +15,15 @@ pub held : {R : ℕ → ℕ → Type 0} {n p v : ℕ} {P : Type 0} → Verdict R
 held (Verdict.sound p) none = p
 held (Verdict.broken r) none = absurd (none r)
 
+-- .. and what the number told says
+pub verdict-sound : {R : ℕ → ℕ → Type 0} {n p v : ℕ} {P : Type 0} → Verdict R (suc n) p P v → v ≡ 0 → P
+verdict-sound (Verdict.sound h) e = h
+verdict-sound (Verdict.broken r) e = absurd (omega arith)
+
+pub verdict-broken : {R : ℕ → ℕ → Type 0} {n p v : ℕ} {P : Type 0} → Verdict R n p P v → (v ≡ 0 → ⊥) → R n p
+verdict-broken (Verdict.sound h) ne = absurd (ne refl)
+verdict-broken (Verdict.broken r) ne = r
+
 module _ (stage : ℕ → ℕ) (R : ℕ → ℕ → Type 0) (n : ℕ) (pos : 0 < n) where
   -- a stage of one rule ..
   pub number-stage :

@@ -20,3 +20,6 @@ pub const NO_PARENT: usize = 0xFFFFFFFF;
 
 // Cpu records of a board, and MPIDRs of a list.
 pub const MAX_CPUS: usize = 256;
+
+// Bytes of a flattened devicetree.
+pub const MAX_BLOB: usize = 65536;

@@ -87,5 +87,20 @@ pub const LIST_MPIDR: u32 = 29;
 // An MPIDR is not in the list.
 pub const LIST_UNKNOWN: u32 = 30;
 
+// A blob's length, magic, total size or versions are not those of a flattened devicetree that can be read.
+pub const BLOB_HEADER: u32 = 31;
+
+// A block leaves the blob's total size, or the structure block is not aligned.
+pub const BLOB_BLOCKS: u32 = 32;
+
+// The token stream breaks the structure of a devicetree.
+pub const BLOB_STRUCTURE: u32 = 33;
+
+// The root has not exactly one child named `cpus`.
+pub const BLOB_CPUS: u32 = 34;
+
+// A lent table is too short.
+pub const TABLE_SPACE: u32 = 35;
+
 // The answer buffer is too short.
 pub const ANSWER_SPACE: u32 = 49;

@@ -2,7 +2,7 @@
 use mathlib.Core.Path.{_≡_, ap, _∙_}
 use mathlib.Core.Logic.{⊎-elim}
 use mathlib.Core.List.{List}
-use Prim.Native.Nat.{ℕ, _+_, _-_, _≤_, _<_}
+use Prim.Native.Nat.{ℕ, _+_, _-_, _<_}
 use native.Mathlib.Omega.{arith}
 use lib.ListN.{length, getD}
 use Rattle.laws.proofs.SearchLaws.{lt-or-le}
@@ -25,7 +25,11 @@ pub string-zero : (block : List ℕ) (i len : ℕ) → StringAt block i len → 
 string-zero block i len h =
     ⊎-elim
     (λ less. absurd (early less))
-    (λ more. ⊎-elim (λ late. absurd (zero-before block i (i + len) (omega arith) late (h .zero-byte))) (λ same. omega arith) (lt-or-le (i + len) (zeroFrom block i)))
+    (λ more.
+    ⊎-elim
+    (λ late. absurd (zero-before block i (i + len) (omega arith) late (h .zero-byte)))
+    (λ same. omega arith)
+    (lt-or-le (i + len) (zeroFrom block i)))
     (lt-or-le (zeroFrom block i) (i + len))
   where
     early : zeroFrom block i < i + len → ⊥

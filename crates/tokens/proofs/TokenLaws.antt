@@ -2,7 +2,7 @@
 use mathlib.Core.Path.{_≡_, refl, sym, _∙_, ap, subst}
 use mathlib.Core.Bool.{Bool, true, false, cond}
 use mathlib.Core.List.{List}
-use Prim.Native.Nat.{ℕ, _+_, _-_, _≤_, _<_}
+use Prim.Native.Nat.{ℕ, suc, _+_, _-_, _≤_}
 use native.Mathlib.Omega.{arith}
 use lib.Dec.{ltb, leb, eqb}
 use lib.ListN.{length}
@@ -16,6 +16,15 @@ use Rattle.tokens.specs.facts.Token.{TokenAt, beginAt, closeAt, property
 use Rattle.tokens.specs.answers.Read.{zeroFrom, behindZero, beginRead, propertyRead, tokenRead}
 use Rattle.tokens.proofs.ZeroLaws.{zero-not-before}
 use Rattle.tokens.proofs.StringLaws.{zero-string, string-zero, named-string, string-named}
+
+-- a cell that is not 0 lies in the block
+pub cell-inside : (block : List ℕ) (at v : ℕ) → cellAt block at ≡ suc v → at + 4 ≤ length block
+unfolding cellAt
+cell-inside block at v e = go (leb (at + 4) (length block)) refl
+  where
+    go : (t : Bool) → leb (at + 4) (length block) ≡ t → at + 4 ≤ length block
+    go true q = leb-true (at + 4) (length block) q
+    go false q = let zero-more : 0 ≡ suc v = sym (rw q) ∙ e in absurd (omega arith)
 
 -- what is read of a token: a property's name by its offset, without its length
 abbrev pub forget : Blocks → Token → ℕ → TokenRead
@@ -119,18 +128,21 @@ module _ (b : Blocks) where
   token-stands at =
       let P = Stands b at in
       let cell = cellAt block at in
-      let e9 = cond (eqb cell 9) End Unsound in
-      let e4 = cond (eqb cell 4) Nop e9 in
-      let e3 = cond (eqb cell 3) (propertyRead block named at) e4 in
-      let e2 = cond (eqb cell 2) Close e3 in
-      cond-both P (leb (at + 4) (length block)) (cond (eqb cell 1) (beginRead block at) e2) Unsound
+      let high = cond (eqb cell 4) Nop (cond (eqb cell 9) End Unsound) in
+      let low = cond (eqb cell 1) (beginRead block at) (cond (eqb cell 2) Close Unsound) in
+      let other = cond (ltb cell 3) low high in
+      cond-both P (leb (at + 4) (length block)) (cond (eqb cell 3) (propertyRead block named at) other) Unsound
       (λ e.
-      let is : (v : ℕ) → eqb cell v ≡ true → CellIs block at v = λ v q. record { inside = leb-true (at + 4) (length block) e; is = eqb-true cell v q } in
-      cond-both P (eqb cell 1) (beginRead block at) e2 (λ f. begin-stands at (is 1 f)) λ f.
-      cond-both P (eqb cell 2) Close e3 (λ f. closeAt (is 2 f)) λ f.
-      cond-both P (eqb cell 3) (propertyRead block named at) e4 (λ f. property-stands at (is 3 f)) λ f.
-      cond-both P (eqb cell 4) Nop e9 (λ f. nopAt (is 4 f)) λ f.
-      cond-both P (eqb cell 9) End Unsound (λ f. finishAt (is 9 f)) λ f. omega arith)
+      let is : (v : ℕ) → eqb cell v ≡ true → CellIs block at v =
+      λ v q. record { inside = leb-true (at + 4) (length block) e; is = eqb-true cell v q } in
+      cond-both P (eqb cell 3) (propertyRead block named at) other (λ f. property-stands at (is 3 f)) λ _.
+      cond-both P (ltb cell 3) low high
+      (λ _.
+      cond-both P (eqb cell 1) (beginRead block at) (cond (eqb cell 2) Close Unsound) (λ f. begin-stands at (is 1 f)) λ _.
+      cond-both P (eqb cell 2) Close Unsound (λ f. closeAt (is 2 f)) λ _. omega arith)
+      λ _.
+      cond-both P (eqb cell 4) Nop (cond (eqb cell 9) End Unsound) (λ f. nopAt (is 4 f)) λ _.
+      cond-both P (eqb cell 9) End Unsound (λ f. finishAt (is 9 f)) λ _. omega arith)
       λ e. omega arith
 
   isSound : TokenRead → ℕ

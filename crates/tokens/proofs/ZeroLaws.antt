@@ -1,5 +1,5 @@
 -- The next zero byte, and the last one. Assumes nothing.
-use mathlib.Core.Path.{_≡_, refl, sym, ap, _∙_, subst}
+use mathlib.Core.Path.{_≡_, refl, sym, subst}
 use mathlib.Core.Bool.{Bool, true, false, cond}
 use mathlib.Core.Logic.{⊎-elim}
 use mathlib.Core.List.{List}
@@ -92,7 +92,9 @@ zero-is bytes i lt =
 pub behind-here : (bytes : List ℕ) (n : ℕ) → 0 < n → getD bytes (n - 1) 0 ≡ 0 → behindZeroIn bytes n ≡ n
 unfolding behindZeroIn
 behind-here bytes zero lt e = absurd (omega arith)
-behind-here bytes (suc n) lt e = let back : suc n - 1 ≡ n = omega arith in rw (eq-eqb (getD bytes n 0) 0 (subst (λ (k : ℕ). getD bytes k 0 ≡ 0) back e))
+behind-here bytes (suc n) lt e =
+    let back : suc n - 1 ≡ n = omega arith in
+    rw (eq-eqb (getD bytes n 0) 0 (subst (λ (k : ℕ). getD bytes k 0 ≡ 0) back e))
 
 pub behind-next : (bytes : List ℕ) (n : ℕ) → 0 < n → (getD bytes (n - 1) 0 ≡ 0 → ⊥) → behindZeroIn bytes n ≡ behindZeroIn bytes (n - 1)
 unfolding behindZeroIn

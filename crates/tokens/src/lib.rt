@@ -1,7 +1,10 @@
 // The tokens of a flattened devicetree: what stands at a place of the structure block.
+mod cell;
+mod known;
 mod token;
 mod zero;
 
+pub use known::known_at;
 pub use token::token_at;
 pub use zero::behind_zero;
 pub use zero::zero_from;

@@ -1,5 +1,10 @@
 // Reading one token of a structure block. `block` has the blob's bytes up to the end of that block.
 use crate::TokenRead;
+use crate::cell::BEGIN_NODE;
+use crate::cell::END;
+use crate::cell::END_NODE;
+use crate::cell::NOP;
+use crate::cell::PROP;
 use crate::zero::zero_from;
 use tables::cell_at;
 use tables::is_inside;
@@ -10,18 +15,8 @@ ghost use lib.ListN.{length};
 ghost use Rattle.tokens.specs.facts.Token.{aligned};
 ghost use Rattle.tokens.specs.answers.Read.{beginRead, propertyRead, tokenRead};
 
-const BEGIN_NODE: u32 = 1;
-
-const END_NODE: u32 = 2;
-
-const PROP: u32 = 3;
-
-const NOP: u32 = 4;
-
-const END: u32 = 9;
-
 // Where the next token stands, behind data that end at a place.
-fn aligned(end: usize) -> usize
+pub fn aligned(end: usize) -> usize
     requires { ⌜ end + 3 < 18446744073709551616 ⌝ }
     ensures { λ r. ⌜ r ≡ aligned end ⌝ }
 {
@@ -62,7 +57,7 @@ fn property_at(block: &[u8], named: usize, at: usize) -> TokenRead
     TokenRead::Unsound
 }
 
-// The token at a place.
+// The token at a place. Most tokens are properties, so their cell is tested first.
 pub fn token_at(block: &[u8], named: usize, at: usize) -> TokenRead
     ensures { λ r. ⌜ r ≡ tokenRead (now (block .entry)) named at ⌝ }
 {
@@ -70,14 +65,17 @@ pub fn token_at(block: &[u8], named: usize, at: usize) -> TokenRead
         return TokenRead::Unsound;
     }
     let cell = cell_at(block, at);
-    if cell == BEGIN_NODE {
-        return begin_at(block, at);
-    }
-    if cell == END_NODE {
-        return TokenRead::Close;
-    }
     if cell == PROP {
         return property_at(block, named, at);
+    }
+    if cell < PROP {
+        if cell == BEGIN_NODE {
+            return begin_at(block, at);
+        }
+        if cell == END_NODE {
+            return TokenRead::Close;
+        }
+        return TokenRead::Unsound;
     }
     if cell == NOP {
         return TokenRead::Nop;

@@ -1,4 +1,4 @@
--- The ten words of an exported call's answer.
+-- The words of an exported call's answer, and what is left where there is no room for them.
 use mathlib.Core.List.{List, [], _∷_, _++_}
 use mathlib.Core.Bool.{cond}
 use Prim.Native.Nat.{ℕ, _/_, _%_, _^_}
@@ -15,10 +15,21 @@ answerWords number place third h =
     number ∷ place ∷ third ∷ h .mask % 2 ^ 32 ∷ h .mask / 2 ^ 32
     ∷ getD (h .shifts) 0 0 ∷ getD (h .shifts) 1 0 ∷ getD (h .shifts) 2 0 ∷ getD (h .shifts) 3 0 ∷ h .bits ∷ []
 
--- 49 where the answer is shorter than ten words, before any other check
-abbrev pub orShort : List ℕ → ℕ → ℕ
-orShort answer number = cond (ltb (length answer) answerSize) 49 number
+-- what a call leaves: what was there where its answer has fewer words than the call writes
+abbrev pub unlessShort : {A : Type 0} → ℕ → List ℕ → A → A → A
+unlessShort size answer before after = cond (ltb (length answer) size) before after
+
+-- 49 where the answer is too short, before any other check
+abbrev pub orShortOf : ℕ → List ℕ → ℕ → ℕ
+orShortOf size answer number = unlessShort size answer 49 number
 
 -- the answer after the call: the words at its start, or unchanged where it is too short
+abbrev pub answerAfterOf : ℕ → List ℕ → List ℕ → List ℕ
+answerAfterOf size answer words = unlessShort size answer answer (words ++ drop size answer)
+
+-- the same for an answer of ten words
+abbrev pub orShort : List ℕ → ℕ → ℕ
+orShort = orShortOf answerSize
+
 abbrev pub answerAfter : List ℕ → List ℕ → List ℕ
-answerAfter answer words = cond (ltb (length answer) answerSize) answer (words ++ drop answerSize answer)
+answerAfter = answerAfterOf answerSize

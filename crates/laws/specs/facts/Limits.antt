@@ -31,3 +31,7 @@ maxCpus = 256
 -- the most clusters above a cluster
 abbrev pub maxClustersAbove : ℕ
 maxClustersAbove = 3
+
+-- the most bytes of a flattened devicetree
+abbrev pub maxBlob : ℕ
+maxBlob = 65536

@@ -28,4 +28,6 @@ cellBytes w = w / 16777216 % 256 ∷ w / 65536 % 256 ∷ w / 256 % 256 ∷ w % 2
 -- the number of the cell that starts at a byte, 0 where the cell leaves the bytes
 unfoldable pub cellAt : List ℕ → ℕ → ℕ
 cellAt bytes at =
-    cond (leb (at + 4) (length bytes)) (getD bytes at 0 * 16777216 + getD bytes (at + 1) 0 * 65536 + getD bytes (at + 2) 0 * 256 + getD bytes (at + 3) 0) 0
+    cond (leb (at + 4) (length bytes))
+    (getD bytes at 0 * 16777216 + getD bytes (at + 1) 0 * 65536 + getD bytes (at + 2) 0 * 256 + getD bytes (at + 3) 0)
+    0

@@ -39,14 +39,37 @@ propertyRead block named at =
     let name = cellAt block (at + 8) in
     cond (ltb (length block) (at + 12 + size)) Unsound (cond (ltb name named) (Property name size (aligned (at + 12 + size))) Unsound)
 
+-- the token that begins with a cell
+abbrev pub tokenBy : List ℕ → ℕ → ℕ → ℕ → TokenRead
+tokenBy block named at cell =
+    cond (eqb cell 3) (propertyRead block named at)
+    (cond (ltb cell 3)
+    (cond (eqb cell 1) (beginRead block at) (cond (eqb cell 2) Close Unsound))
+    (cond (eqb cell 4) Nop (cond (eqb cell 9) End Unsound)))
+
 -- The token at a place of a structure block that ends where the bytes do. Names of properties begin before `named`.
 unfoldable pub tokenRead : List ℕ → ℕ → ℕ → TokenRead
-tokenRead block named at =
-    let cell = cellAt block at in
-    cond (leb (at + 4) (length block))
-    (cond (eqb cell 1) (beginRead block at)
-    (cond (eqb cell 2) Close
-    (cond (eqb cell 3) (propertyRead block named at)
-    (cond (eqb cell 4) Nop
-    (cond (eqb cell 9) End Unsound)))))
-    Unsound
+tokenRead block named at = cond (leb (at + 4) (length block)) (tokenBy block named at (cellAt block at)) Unsound
+
+-- What reading a token finds where one is known to stand: whether its data lie in the block is not tested again.
+abbrev pub knownBegin : List ℕ → ℕ → TokenRead
+knownBegin block at =
+    let stop = zeroFrom block (at + 4) in
+    Begin (stop - (at + 4)) (aligned (stop + 1))
+
+-- a property's name begins in a strings block of so many bytes
+abbrev pub knownProperty : List ℕ → ℕ → ℕ → TokenRead
+knownProperty block strings-size at =
+    let size = cellAt block (at + 4) in
+    let name = cellAt block (at + 8) in
+    cond (ltb name strings-size) (Property name size (aligned (at + 12 + size))) Unsound
+
+abbrev pub knownBy : List ℕ → ℕ → ℕ → ℕ → TokenRead
+knownBy block strings-size at cell =
+    cond (eqb cell 3) (knownProperty block strings-size at)
+    (cond (ltb 3 cell)
+    (cond (eqb cell 4) Nop Unsound)
+    (cond (eqb cell 1) (knownBegin block at) (cond (eqb cell 2) Close Unsound)))
+
+unfoldable pub knownRead : List ℕ → ℕ → ℕ → TokenRead
+knownRead block strings-size at = knownBy block strings-size at (cellAt block at)

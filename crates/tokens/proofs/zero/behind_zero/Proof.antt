@@ -7,8 +7,6 @@ use Rattle.tokens.proofs.ZeroLaws.{behind-here, behind-next, behind-non
 use borrow.Author.Needs.{needs}
 use Rattle.tokens.proofs.zero.behind_zero.Statement.{statement}
 use Rattle.tokens.proofs.zero.behind_zero.Tie as tie
-use Rattle.tokens.proofs.zero.behind_zero.Reads as reads
-use Rattle.tokens.proofs.zero.behind_zero.Lts as lts
 
 abbrev Inv-loop : tie.InvT-loop
 Inv-loop bytes n₀ n = (n ≤ length bytes) × (behindZero bytes ≡ behindZeroIn bytes n)
@@ -16,36 +14,28 @@ Inv-loop bytes n₀ n = (n ≤ length bytes) × (behindZero bytes ≡ behindZero
 abbrev μ-loop : tie.MeasureT-loop
 μ-loop bytes n₀ n = n
 
--- src/zero.rt:24:5
 loop-holds : tie.Need-loop-holds Inv-loop μ-loop
 unfolding behindZero
 loop-holds c = (omega arith, refl)
 
--- src/zero.rt:25:18
 sub-if1 : tie.Need-sub-if1 Inv-loop μ-loop
 sub-if1 c = search needs
 
--- src/zero.rt:25:12
 shared-slice-read-if1 : tie.Need-shared-slice-read-if1 Inv-loop μ-loop
 shared-slice-read-if1 c = search needs
 
--- src/zero.rt:26:13
 returns : tie.Need-returns Inv-loop μ-loop
 returns c = sym (c .before .before .before .loop .inv .1 ∙ behind-here _ _ (omega arith) (c .if1 .taken))
 
--- src/zero.rt:28:9
 sub-n : tie.Need-sub-n Inv-loop μ-loop
 sub-n c = search needs
 
--- src/zero.rt:24:5
 loop-less : tie.Need-loop-less Inv-loop μ-loop
 loop-less c = search needs
 
--- src/zero.rt:24:5
 loop-again : tie.Need-loop-again Inv-loop μ-loop
 loop-again c = (omega arith, c .before .before .before .loop .inv .1 ∙ behind-next _ _ (omega arith) (c .if1 .left))
 
--- src/zero.rt:20:1
 returns-2 : tie.Need-returns-2 Inv-loop μ-loop
 returns-2 c = sym (c .before .loop .inv .1 ∙ behind-none _ _ (omega arith))
 

@@ -1,5 +1,5 @@
 use mathlib.Core.Path.{_≡_, refl, sym, _∙_}
-use Prim.Native.Nat.{_-_, _≤_}
+use Prim.Native.Nat.{_-_}
 use native.Mathlib.Omega.{arith}
 use lib.ListN.{length}
 use Rattle.tokens.specs.answers.Read.{zeroFrom}
@@ -7,8 +7,6 @@ use Rattle.tokens.proofs.ZeroLaws.{zero-here, zero-next, zero-end}
 use borrow.Author.Needs.{needs}
 use Rattle.tokens.proofs.zero.zero_from.Statement.{statement}
 use Rattle.tokens.proofs.zero.zero_from.Tie as tie
-use Rattle.tokens.proofs.zero.zero_from.Reads as reads
-use Rattle.tokens.proofs.zero.zero_from.Lts as lts
 
 abbrev Inv-loop : tie.InvT-loop
 Inv-loop bytes from i₀ i = zeroFrom bytes from ≡ zeroFrom bytes i
@@ -16,31 +14,24 @@ Inv-loop bytes from i₀ i = zeroFrom bytes from ≡ zeroFrom bytes i
 abbrev μ-loop : tie.MeasureT-loop
 μ-loop bytes from i₀ i = length bytes - i
 
--- src/zero.rt:10:5
 loop-holds : tie.Need-loop-holds Inv-loop μ-loop
 loop-holds c = refl
 
--- src/zero.rt:11:12
 shared-slice-read-if1 : tie.Need-shared-slice-read-if1 Inv-loop μ-loop
 shared-slice-read-if1 c = search needs
 
--- src/zero.rt:12:13
 returns : tie.Need-returns Inv-loop μ-loop
 returns c = sym (c .before .before .before .loop .inv ∙ zero-here _ _ (omega arith) (c .if1 .taken))
 
--- src/zero.rt:14:9
 add-i : tie.Need-add-i Inv-loop μ-loop
 add-i c = search needs
 
--- src/zero.rt:10:5
 loop-less : tie.Need-loop-less Inv-loop μ-loop
 loop-less c = search needs
 
--- src/zero.rt:10:5
 loop-again : tie.Need-loop-again Inv-loop μ-loop
 loop-again c = c .before .before .before .loop .inv ∙ zero-next _ _ (omega arith) (c .if1 .left)
 
--- src/zero.rt:6:1
 returns-2 : tie.Need-returns-2 Inv-loop μ-loop
 returns-2 c = sym (c .before .loop .inv ∙ zero-end _ _ (omega arith))
 

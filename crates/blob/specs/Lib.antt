@@ -1,0 +1,2 @@
+-- What the contracts inside `blob` cite beside the definitions of `flat`.
+pub mod steps

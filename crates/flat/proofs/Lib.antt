@@ -1,0 +1,13 @@
+-- Laws about the definitions of this crate.
+pub mod HeaderMeans
+pub mod RuleLaws
+pub mod RecordLaws
+pub mod WithinLaws
+pub mod WordLaws
+pub mod OrderLaws
+pub mod BoardLaws
+pub mod KnownLaws
+pub mod FillLaws
+pub mod CpusLaws
+pub mod JoinLaws
+pub mod Claim

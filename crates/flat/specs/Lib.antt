@@ -1,0 +1,3 @@
+-- What the contract of `read_blob` cites: rules 31 to 35, what is answered, and what holds of it.
+pub mod facts
+pub mod answers

@@ -1,0 +1,3 @@
+-- What the contracts of `header` cite: the header of a flattened devicetree, and what is told of it.
+pub mod facts
+pub mod answers

@@ -1,0 +1,3 @@
+-- What the contracts of `stream` cite: the tree of a devicetree, whole and broken token streams, and the walk over a structure block.
+pub mod facts
+pub mod answers
