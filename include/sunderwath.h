@@ -4,29 +4,33 @@
  * The library takes the /cpus subtree of a devicetree as plain tables, checks
  * it against the cpu and cpu-map bindings, and writes one row for each
  * processor: its place in the map, its MPIDR and its slot in a collision-free
- * hash of all MPIDRs.
+ * hash of all MPIDRs. It fills such tables from a flattened devicetree, too.
  *
  * WHAT A CALLER OWES, for every function below
  *
  *  - Each pointer is followed by a count of ELEMENTS (words of 32 bits, MPIDRs
- *    of 64 bits, or bytes of the pool), never a size in bytes.
+ *    of 64 bits, or bytes of a blob or pool), never a size in bytes.
  *  - Each pointer is valid for its count of elements, aligned for its type and
  *    not NULL, even where the count is 0.
- *  - The parts that are written (rows, answer) overlap no other part that is
- *    lent to the same call. Parts that are only read may overlap each other.
+ *  - The parts that are written (rows, answer; for read_flat the two tables
+ *    and the answer) overlap no other part that is lent to the same call.
+ *    Parts that are only read may overlap each other.
  *  - No other thread changes a lent part during the call. The library keeps no
  *    state and no pointer after it returns.
  *
  * WHAT IS WRITTEN
  *
  *  - The number told is returned, and is word 0 of the answer too.
- *  - With fewer than SUNDERWATH_ANSWER_WORDS words of answer, nothing is
- *    written at all and SUNDERWATH_ANSWER_SPACE is returned, before any other
- *    check.
- *  - Otherwise exactly the first ten words of the answer are written.
+ *  - With fewer words of answer than stated (SUNDERWATH_ANSWER_WORDS, for
+ *    read_flat SUNDERWATH_FLAT_ANSWER_WORDS), nothing is written at all and
+ *    SUNDERWATH_ANSWER_SPACE is returned, before any other check.
+ *  - Otherwise exactly the stated words of the answer are written.
  *  - Rows are written on acceptance only: 12 words for each processor from
  *    word 0. Everything behind the last row stays as it is. A refusal changes
  *    no word of the rows.
+ *  - The tables of read_flat are written on acceptance only, from word 0: 3
+ *    words for each node, 5 for each property. Everything behind stays as it
+ *    is. A refusal changes no word of them.
  */
 #ifndef SUNDERWATH_H
 #define SUNDERWATH_H
@@ -44,12 +48,20 @@ extern "C" {
 /* Positions of the words of an answer. In a refusal all words but the first
  * two are 0. */
 #define SUNDERWATH_ANSWER_NUMBER 0    /* 0 or the number of the rule broken */
-#define SUNDERWATH_ANSWER_PLACE 1     /* the record that breaks it, or 0 */
+#define SUNDERWATH_ANSWER_PLACE 1     /* where it is broken: see the numbers */
 #define SUNDERWATH_ANSWER_COUNT 2     /* processors; for list_slot the slot */
 #define SUNDERWATH_ANSWER_MASK_LOW 3  /* mask, bits 31..0 */
 #define SUNDERWATH_ANSWER_MASK_HIGH 4 /* mask, bits 63..32 */
 #define SUNDERWATH_ANSWER_SHIFTS 5    /* four shifts, affinity level 0 first */
 #define SUNDERWATH_ANSWER_BITS 9      /* bits of a slot */
+
+/* Words of the answer of sunderwath_read_flat. */
+#define SUNDERWATH_FLAT_ANSWER_WORDS 4
+
+/* Positions of its words; number and place are those of every answer. In a
+ * refusal the other two are 0. */
+#define SUNDERWATH_FLAT_NODES 2      /* node records written */
+#define SUNDERWATH_FLAT_PROPERTIES 3 /* property records written */
 
 /* Words of a row. */
 #define SUNDERWATH_ROW_WORDS 12
@@ -78,7 +90,8 @@ extern "C" {
 /* Parent word of node record 0; also "no property" of find_property. */
 #define SUNDERWATH_NONE 0xFFFFFFFFu
 
-/* Limits. */
+/* Limits: bytes of a blob, records, bytes of a pool, cpu nodes. */
+#define SUNDERWATH_MAX_BLOB 65536
 #define SUNDERWATH_MAX_NODES 1024
 #define SUNDERWATH_MAX_PROPERTIES 4096
 #define SUNDERWATH_MAX_POOL 65536
@@ -94,11 +107,38 @@ extern "C" {
 #define SUNDERWATH_STACK_BYTES 49264
 
 /*
+ * The bytes of stack that sunderwath_read_flat needs at most, whatever the
+ * blob: nothing recurs, however deep the nodes are nested. Measured on x86-64,
+ * not proved. 512 of them are a table over the strings block; the rest is up to
+ * the compiler and to memset. tests/c/stack_test.c measures blobs of 16 and of
+ * 256 cpus, a full one, one as deep as fits and one of names that overlap.
+ */
+#define SUNDERWATH_FLAT_STACK_BYTES 744
+
+/*
  * The numbers, in the order of checking. Each comment says what is wrong and,
  * after the semicolon, what the place of the answer is. 14 is not used.
+ * The place of a record is its number in its table.
  */
 enum sunderwath_number {
     SUNDERWATH_ACCEPTED = 0,
+
+    /* ---- the flattened devicetree (told by sunderwath_read_flat) ---- */
+
+    /* blob not 40 to 65,536 bytes, or magic, total size or version in its
+     * header; 0 */
+    SUNDERWATH_BLOB_HEADER = 31,
+    /* structure or strings block outside the total size, or the structure
+     * block not on multiples of 4; 0 */
+    SUNDERWATH_BLOB_BLOCKS = 32,
+    /* token stream breaks the specification's structure; the offset from the
+     * blob's start of the first token that does, or of the structure block's
+     * end where tokens run out */
+    SUNDERWATH_BLOB_STRUCTURE = 33,
+    /* root without, or with more than one child named cpus; 0 */
+    SUNDERWATH_BLOB_CPUS = 34,
+    /* node or property table too short; 0 */
+    SUNDERWATH_TABLE_SPACE = 35,
 
     /* ---- the tables ---- */
 
@@ -172,7 +212,7 @@ enum sunderwath_number {
 
     /* ---- the call ---- */
 
-    /* answer of fewer than ten words; nothing written */
+    /* answer of fewer words than stated; nothing written */
     SUNDERWATH_ANSWER_SPACE = 49
 };
 
@@ -190,6 +230,25 @@ uint32_t sunderwath_list_hash(const uint64_t *list, size_t n,
  */
 uint32_t sunderwath_list_slot(uint64_t mpidr, const uint64_t *list, size_t n,
                               uint32_t *answer, size_t a);
+
+/*
+ * Reads a flattened devicetree (version 17, at most SUNDERWATH_MAX_BLOB bytes)
+ * and fills the tables of its /cpus subtree: each node and each property once,
+ * in the order of the blob, node record 0 the cpus node. Tells 31 to 35; the
+ * whole token stream is looked at, outside /cpus too. On acceptance words 2
+ * and 3 of the answer count the records written. Bytes behind the header's
+ * total size are not looked at, but the limit counts them: lend the blob alone.
+ *
+ * The blob is the pool of these records: their offsets count from its start.
+ * Lend the same bytes as `pool` to sunderwath_read_tables, with 3 and 5 times
+ * the counts as the words of the tables. A table has room if it has the words
+ * of all records; no blob has more than 5,461 of either. Node and property
+ * counts above the limits are filled all the same and told by 2 and 3 later.
+ */
+uint32_t sunderwath_read_flat(const uint8_t *blob, size_t blob_n,
+                              uint32_t *nodes, size_t nodes_n,
+                              uint32_t *props, size_t props_n,
+                              uint32_t *answer, size_t answer_n);
 
 /*
  * Reads a board. `width` is 32 (ARM v7 or later) or 64 (ARM v8). Node record 0

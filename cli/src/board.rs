@@ -1,7 +1,7 @@
 //! The library's call, and the board that it accepts.
 
-use crate::fdt::Tables;
 use crate::messages;
+use crate::tables::Tables;
 
 const ANSWER_WORDS: usize = 10;
 const ROW_WORDS: usize = 12;
@@ -80,9 +80,7 @@ fn row(words: &[u32]) -> Row {
 pub fn read(width: u32, tables: &Tables) -> Result<Board, Refusal> {
     let mut rows = vec![0; ROW_WORDS * MOST_CPUS];
     let mut answer = [0; ANSWER_WORDS];
-    let Tables {
-        nodes, props, pool, ..
-    } = tables;
+    let Tables { nodes, props, pool } = tables;
     // SAFETY: each pointer comes with the length of its own vector or array,
     // and the two that are written are borrowed from nothing else.
     let number = unsafe {
@@ -160,10 +158,7 @@ fn sibling_number(tables: &Tables, record: u32) -> String {
 
 /// `ERROR 21 (cpu_map_order): /cpus/cpu-map/cluster0/core6: sentence (core6, of 6 siblings)`
 pub fn describe(tables: &Tables, refusal: Refusal) -> String {
-    let (check, sentence) = match messages::find(refusal.number) {
-        Some(message) => (message.check, message.sentence),
-        None => ("unknown", "a number that this program does not know"),
-    };
+    let (check, sentence) = messages::check_and_sentence(refusal.number);
     format!(
         "ERROR {} ({check}): {}: {sentence}{}",
         refusal.number,
@@ -175,23 +170,14 @@ pub fn describe(tables: &Tables, refusal: Refusal) -> String {
 #[cfg(test)]
 mod tests {
     use super::*;
-    use crate::fdt::NO_PARENT;
 
     /// Describes 21 at the last of some children of a cluster; others follow.
     fn told(names: &[&str], others: &[&str]) -> String {
-        let mut tables = Tables::default();
-        let root = tables.add_node(NO_PARENT, b"cpus");
-        let map = tables.add_node(root, b"cpu-map");
-        let cluster = tables.add_node(map, b"cluster0");
-        let mut place = cluster;
-        for name in names {
-            place = tables.add_node(cluster, name.as_bytes());
-        }
-        for name in others {
-            tables.add_node(cluster, name.as_bytes());
-        }
-        tables.add_node(root, b"cpu@0");
-        describe(&tables, Refusal { number: 21, place })
+        let mut nodes = vec![(0, "cpus"), (0, "cpu-map"), (1, "cluster0")];
+        nodes.extend(names.iter().chain(others).map(|&name| (2, name)));
+        nodes.push((0, "cpu@0"));
+        let place = 2 + names.len() as u32;
+        describe(&Tables::of_nodes(&nodes), Refusal { number: 21, place })
     }
 
     fn ends_with(message: &str, end: &str) {
@@ -222,9 +208,9 @@ mod tests {
 
     #[test]
     fn no_details_for_other_numbers() {
-        let mut tables = Tables::default();
-        let place = tables.add_node(NO_PARENT, b"cpus");
-        let message = describe(&tables, Refusal { number: 15, place });
+        let tables = Tables::of_nodes(&[(0, "cpus")]);
+        let (number, place) = (15, 0);
+        let message = describe(&tables, Refusal { number, place });
         assert_eq!(message, "ERROR 15 (cpu_map_missing): /cpus: no cpu-map");
     }
 }

@@ -1,9 +1,14 @@
-//! The parts of the `sunderwath` command: a walker that turns the /cpus
-//! subtree of a blob into tables, the library's call, messages and output.
+//! The parts of the `sunderwath` command: the library's two calls (a blob into
+//! tables, tables into rows), long blobs cut down to /cpus, messages, output.
 
 pub mod board;
-pub mod fdt;
+pub mod cut;
+pub mod fault;
+pub mod flat;
+pub mod header;
 pub mod input;
 pub mod messages;
 pub mod options;
 pub mod output;
+pub mod stream;
+pub mod tables;

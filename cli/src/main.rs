@@ -2,8 +2,9 @@
 
 use std::io::{self, Write};
 use std::process::ExitCode;
+use sunderwath::flat::{self, Reading};
 use sunderwath::options::{self, Options, Request, USAGE};
-use sunderwath::{board, fdt, input, output};
+use sunderwath::{board, input, output};
 
 const REFUSED: u8 = 1;
 const UNREADABLE: u8 = 2;
@@ -34,25 +35,35 @@ fn print(text: &str) -> ExitCode {
     }
 }
 
+/// One line on standard error that begins with the file's name.
+fn tell(options: &Options, message: &str) {
+    if !options.quiet {
+        eprintln!("{}: {message}", options.file);
+    }
+}
+
 fn run(options: &Options) -> ExitCode {
-    let unreadable = |message: String| {
-        eprintln!("{message}");
-        ExitCode::from(UNREADABLE)
+    let file = match input::read(&options.file) {
+        Ok(file) => file,
+        Err(message) => {
+            eprintln!("{message}");
+            return ExitCode::from(UNREADABLE);
+        }
     };
-    let blob = match input::read(&options.file) {
-        Ok(blob) => blob,
-        Err(message) => return unreadable(message),
+    let Reading { tables, note } = match flat::read(file) {
+        Ok(reading) => reading,
+        Err(fault) => {
+            tell(options, &fault.to_string());
+            return ExitCode::from(REFUSED);
+        }
     };
-    let tables = match fdt::tables(&blob) {
-        Ok(tables) => tables,
-        Err(message) => return unreadable(format!("{}: {message}", options.file)),
-    };
+    if let Some(note) = note {
+        tell(options, &format!("note: {note}"));
+    }
     match board::read(options.width, &tables) {
         Ok(board) => print(&output::print(options.format, &tables, &board)),
         Err(refusal) => {
-            if !options.quiet {
-                eprintln!("{}: {}", options.file, board::describe(&tables, refusal));
-            }
+            tell(options, &board::describe(&tables, refusal));
             ExitCode::from(REFUSED)
         }
     }

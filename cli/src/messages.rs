@@ -15,7 +15,7 @@ const fn message(number: u32, check: &'static str, sentence: &'static str) -> Me
     }
 }
 
-pub const MESSAGES: [Message; 31] = [
+pub const MESSAGES: [Message; 36] = [
     message(0, "accepted", "the board is accepted"),
     message(1, "board_width", "the width is neither 32 nor 64"),
     message(
@@ -31,7 +31,7 @@ pub const MESSAGES: [Message; 31] = [
     message(
         4,
         "pool_size",
-        "names and values of the subtree take more than 65536 bytes",
+        "the pool has more than 65536 bytes",
     ),
     message(
         5,
@@ -147,15 +147,48 @@ pub const MESSAGES: [Message; 31] = [
     ),
     message(30, "list_unknown", "the MPIDR is not in the list"),
     message(
+        31,
+        "blob_header",
+        "not a devicetree blob that can be read",
+    ),
+    message(
+        32,
+        "blob_blocks",
+        "the structure or strings block does not lie as it must",
+    ),
+    message(
+        33,
+        "blob_structure",
+        "the token stream breaks the specification's structure",
+    ),
+    message(
+        34,
+        "blob_cpus",
+        "the root must have exactly one child named cpus",
+    ),
+    message(
+        35,
+        "table_space",
+        "a lent table is too short for the records of /cpus",
+    ),
+    message(
         49,
         "answer_space",
-        "the answer has fewer than ten words",
+        "the answer has fewer words than stated",
     ),
 ];
 
 /// The message of a number that the library tells.
 pub fn find(number: u32) -> Option<&'static Message> {
     MESSAGES.iter().find(|message| message.number == number)
+}
+
+/// Check name and sentence of any number.
+pub fn check_and_sentence(number: u32) -> (&'static str, &'static str) {
+    match find(number) {
+        Some(message) => (message.check, message.sentence),
+        None => ("unknown", "a number that this program does not know"),
+    }
 }
 
 #[cfg(test)]
@@ -165,7 +198,7 @@ mod tests {
     #[test]
     fn every_number_has_one_message() {
         let numbers: Vec<u32> = MESSAGES.iter().map(|m| m.number).collect();
-        let wanted: Vec<u32> = (0..=30).filter(|&n| n != 14).chain([49]).collect();
+        let wanted: Vec<u32> = (0..=35).filter(|&n| n != 14).chain([49]).collect();
         assert_eq!(numbers, wanted);
     }
 

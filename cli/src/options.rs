@@ -11,7 +11,7 @@ standard input.
   -p, --parse        print comma-separated values, with comments after #
   -j, --json         print JSON
   -t, --tree         print the cpu-map as an indented tree
-  -q, --quiet        print no message when the board is refused
+  -q, --quiet        print no note, and no message when the board is refused
   -h, --help         print this help
   -V, --version      print the version
 

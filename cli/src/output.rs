@@ -1,8 +1,8 @@
 //! Prints an accepted board: as a table, parsable, as JSON or as a tree.
 
 use crate::board::{Board, Row};
-use crate::fdt::Tables;
 use crate::options::Format;
+use crate::tables::Tables;
 use std::fmt::Write;
 
 const HEADER: [&str; 8] = [

@@ -1,12 +1,14 @@
 /*
- * Measures the stack that sunderwath_read_tables needs. Each board is read on
- * a stack of its own, painted before; afterwards the paint that is gone is
- * counted, less what an empty function takes there. Prints the bytes of each
- * board; exit status 1 where a board needs more than SUNDERWATH_STACK_BYTES, an
- * ordinary one more than ORDINARY_BYTES, or is not answered as expected.
+ * Measures the stack that sunderwath_read_tables and sunderwath_read_flat need.
+ * Each board or blob is read on a stack of its own, painted before; afterwards
+ * the paint that is gone is counted, less what an empty function takes there.
+ * Prints the bytes of each; exit status 1 where a board needs more than
+ * SUNDERWATH_STACK_BYTES, an ordinary one more than ORDINARY_BYTES, a blob more
+ * than SUNDERWATH_FLAT_STACK_BYTES, or is not answered as expected.
  */
 #define _XOPEN_SOURCE 700
 
+#include "blob.h"
 #include "sunderwath.h"
 
 #include <stdio.h>
@@ -20,6 +22,14 @@
 /* The most that boards without long chains of records have needed. */
 #define ORDINARY_BYTES 16816
 
+/* Of either table, in the largest blob. */
+#define MOST_RECORDS 5461
+
+/* Nodes of 12 bytes beside the root, the name `cpus` and the end token; and
+ * properties of 12 bytes in half of a blob. */
+#define NESTED ((SUNDERWATH_MAX_BLOB - STRUCTURE - 20) / 12)
+#define OVERLAPPING (SUNDERWATH_MAX_BLOB / 2 / 12)
+
 static uint32_t nodes[SUNDERWATH_MAX_NODES * SUNDERWATH_NODE_WORDS];
 static uint32_t props[SUNDERWATH_MAX_PROPERTIES * SUNDERWATH_PROPERTY_WORDS];
 static uint8_t pool[SUNDERWATH_MAX_POOL];
@@ -27,8 +37,13 @@ static uint32_t rows[SUNDERWATH_MAX_CPUS * SUNDERWATH_ROW_WORDS];
 static uint32_t answer[SUNDERWATH_ANSWER_WORDS];
 static size_t n, p, bytes;
 
+static struct blob blob;
+static uint32_t flat_nodes[MOST_RECORDS * SUNDERWATH_NODE_WORDS];
+static uint32_t flat_props[MOST_RECORDS * SUNDERWATH_PROPERTY_WORDS];
+
 static uint64_t stack[STACK_WORDS];
 static ucontext_t outside, inside;
+static void (*reader)(void);
 static size_t limit, largest;
 static int failures;
 
@@ -137,6 +152,95 @@ static void deepest_map(void)
     add_cpu(0);
 }
 
+/* ---- building a blob ---- */
+
+/* A name of the pool, with a zero byte behind it. */
+static const char *name_at(uint32_t offset, uint32_t length)
+{
+    static char name[32];
+
+    memcpy(name, pool + offset, length);
+    name[length] = '\0';
+    return name;
+}
+
+static void put_props_of(uint32_t node)
+{
+    const uint32_t *prop;
+
+    for (prop = props; prop < props + p; prop += SUNDERWATH_PROPERTY_WORDS) {
+        if (prop[0] == node)
+            put_prop(&blob, name_at(prop[1], prop[2]), pool + prop[3], prop[4]);
+    }
+}
+
+/* Closes a record's node and those around it, up to that of another record. */
+static void close_up_to(uint32_t record, uint32_t last)
+{
+    for (; record != last; record = nodes[SUNDERWATH_NODE_WORDS * record])
+        put_word(&blob, END_NODE);
+}
+
+/* The end of the root and of the blob. */
+static void close_root(void)
+{
+    put_word(&blob, END_NODE);
+    put_word(&blob, END);
+    finish_blob(&blob);
+}
+
+/* The board as a blob. */
+static void blob_of_board(void)
+{
+    uint32_t open = SUNDERWATH_NONE, at;
+
+    start_blob(&blob);
+    for (at = 0; at < n / SUNDERWATH_NODE_WORDS; at++) {
+        const uint32_t *node = nodes + SUNDERWATH_NODE_WORDS * at;
+
+        close_up_to(open, node[0]);
+        put_begin(&blob, name_at(node[1], node[2]));
+        put_props_of(at);
+        open = at;
+    }
+    close_up_to(open, SUNDERWATH_NONE);
+    close_root();
+}
+
+/* `cpus` and NESTED - 1 nodes without a name, each the child of the one before;
+ * they fill the blob. */
+static void nested_blob(void)
+{
+    uint32_t at;
+
+    start_blob(&blob);
+    put_begin(&blob, "cpus");
+    for (at = 1; at < NESTED; at++)
+        put_begin(&blob, "");
+    for (at = 0; at < NESTED; at++)
+        put_word(&blob, END_NODE);
+    close_root();
+}
+
+/* Properties of `cpus` in one half of the blob. The other half is one name;
+ * theirs begin at each of its first bytes. */
+static void overlapping_blob(void)
+{
+    uint32_t at;
+
+    start_blob(&blob);
+    put_begin(&blob, "cpus");
+    for (at = 0; at < OVERLAPPING; at++) {
+        put_word(&blob, PROP);
+        put_word(&blob, 0);
+        put_word(&blob, at);
+    }
+    put_word(&blob, END_NODE);
+    blob.strings_n = SUNDERWATH_MAX_BLOB - 8 - blob.n;
+    memset(blob.strings, 'x', blob.strings_n - 1);
+    close_root();
+}
+
 /* ---- measuring ---- */
 
 static void read_board(void)
@@ -144,6 +248,14 @@ static void read_board(void)
     sunderwath_read_tables(64, nodes, n, props, p, pool, bytes, rows,
                            sizeof rows / sizeof *rows, answer,
                            SUNDERWATH_ANSWER_WORDS);
+}
+
+static void read_blob(void)
+{
+    sunderwath_read_flat(blob.bytes, blob.n, flat_nodes,
+                         sizeof flat_nodes / sizeof *flat_nodes, flat_props,
+                         sizeof flat_props / sizeof *flat_props, answer,
+                         SUNDERWATH_FLAT_ANSWER_WORDS);
 }
 
 static void do_nothing(void)
@@ -170,16 +282,16 @@ static size_t bytes_touched(void (*function)(void))
     return sizeof stack - at * sizeof *stack;
 }
 
-/* Reads the board once before: what the dynamic linker does at the first call
- * of a function is not counted. */
+/* Reads the board or blob once before: what the dynamic linker does at the
+ * first call of a function is not counted. */
 static void measure(const char *name, uint32_t number, uint32_t place)
 {
     size_t need;
     const char *verdict = "ok";
 
-    read_board();
+    reader();
     memset(answer, 0xA5, sizeof answer);
-    need = bytes_touched(read_board) - bytes_touched(do_nothing);
+    need = bytes_touched(reader) - bytes_touched(do_nothing);
     if (need > largest)
         largest = need;
     if (need > limit)
@@ -188,7 +300,7 @@ static void measure(const char *name, uint32_t number, uint32_t place)
         answer[SUNDERWATH_ANSWER_PLACE] != place)
         verdict = "DIFFERENT";
     failures += strcmp(verdict, "ok") != 0;
-    printf("%-46s number %2u at %4u %6zu bytes %s\n", name,
+    printf("%-46s number %2u at %5u %6zu bytes %s\n", name,
            (unsigned)answer[SUNDERWATH_ANSWER_NUMBER],
            (unsigned)answer[SUNDERWATH_ANSWER_PLACE], need, verdict);
 }
@@ -258,14 +370,76 @@ static void nested_below_a_cpu(void)
     measure("nested below a cpu, the map last", 23, LAST);
 }
 
+/* ---- the blobs ---- */
+
+/* The blob is accepted, and has so many records. */
+static void measure_blob(const char *name, size_t node_count, size_t prop_count)
+{
+    measure(name, 0, 0);
+    if (answer[SUNDERWATH_FLAT_NODES] != node_count ||
+        answer[SUNDERWATH_FLAT_PROPERTIES] != prop_count) {
+        printf("%s: DIFFERENT counts\n", name);
+        failures++;
+    }
+}
+
+static void measure_board_as_blob(const char *name)
+{
+    blob_of_board();
+    measure_blob(name, n / SUNDERWATH_NODE_WORDS,
+                 p / SUNDERWATH_PROPERTY_WORDS);
+}
+
+/* The third has as many properties more, of 14 bytes, as there is room for. */
+static void accepted_blobs(void)
+{
+    size_t room;
+
+    regular_board(16);
+    measure_board_as_blob("blob of 16 cpus");
+    regular_board(256);
+    measure_board_as_blob("blob of 256 cpus");
+    for (room = SUNDERWATH_MAX_BLOB - blob.n; room >= 14; room -= 14)
+        add_prop(0, "x", "", 0);
+    measure_board_as_blob("blob of 256 cpus, full");
+    nested_blob();
+    measure_blob("blob of nested nodes", NESTED, 0);
+    overlapping_blob();
+    measure_blob("blob of overlapping names", 1, OVERLAPPING);
+}
+
+/* The end token comes last in a blob without properties; without it the tokens
+ * run out at the blob's end. */
+static void refused_blob(void)
+{
+    nested_blob();
+    set_word(&blob, blob.n - 4, NOP);
+    measure("blob of nested nodes, no end token", SUNDERWATH_BLOB_STRUCTURE,
+            (uint32_t)blob.n);
+}
+
+/* Says the most that was needed, and begins anew. */
+static void sum_up(const char *name, size_t bytes_said)
+{
+    printf("largest %zu bytes, %s %zu, %d failures\n", largest, name,
+           bytes_said, failures);
+    largest = 0;
+}
+
 int main(void)
 {
+    reader = read_board;
     limit = ORDINARY_BYTES;
     accepted_boards();
     limit = SUNDERWATH_STACK_BYTES;
     nested_in_the_map();
     nested_below_a_cpu();
-    printf("largest %zu bytes, SUNDERWATH_STACK_BYTES %u, %d failures\n",
-           largest, (unsigned)SUNDERWATH_STACK_BYTES, failures);
+    sum_up("SUNDERWATH_STACK_BYTES", SUNDERWATH_STACK_BYTES);
+
+    reader = read_blob;
+    limit = SUNDERWATH_FLAT_STACK_BYTES;
+    accepted_blobs();
+    refused_blob();
+    sum_up("SUNDERWATH_FLAT_STACK_BYTES", SUNDERWATH_FLAT_STACK_BYTES);
     return failures == 0 ? 0 : 1;
 }

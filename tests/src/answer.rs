@@ -56,3 +56,31 @@ impl Answer {
         }
     }
 }
+
+/// Words in the answer of read_flat.
+pub const FLAT_ANSWER_WORDS: usize = 4;
+
+/// What read_flat answers; a refusal counts no records.
+#[derive(Clone, Copy, Debug, Default, PartialEq, Eq)]
+pub struct FlatAnswer {
+    pub number: u32,
+    pub place: u32,
+    pub nodes: u32,
+    pub props: u32,
+}
+
+impl FlatAnswer {
+    pub fn words(&self) -> [u32; FLAT_ANSWER_WORDS] {
+        [self.number, self.place, self.nodes, self.props]
+    }
+
+    pub fn from_words(words: &[u32; FLAT_ANSWER_WORDS]) -> FlatAnswer {
+        let [number, place, nodes, props] = *words;
+        FlatAnswer {
+            number,
+            place,
+            nodes,
+            props,
+        }
+    }
+}

@@ -1,6 +1,8 @@
 //! The library's C calls, and wrappers that take slices.
 
 use crate::answer::{Answer, ANSWER_WORDS};
+#[cfg(feature = "flat")]
+use crate::answer::{FlatAnswer, FLAT_ANSWER_WORDS};
 
 mod raw {
     extern "C" {
@@ -45,6 +47,17 @@ mod raw {
             bytes: usize,
             rows: *mut u32,
             words: usize,
+            answer: *mut u32,
+            a: usize,
+        ) -> u32;
+        #[cfg(feature = "flat")]
+        pub fn sunderwath_read_flat(
+            blob: *const u8,
+            bytes: usize,
+            nodes: *mut u32,
+            n: usize,
+            props: *mut u32,
+            p: usize,
             answer: *mut u32,
             a: usize,
         ) -> u32;
@@ -137,6 +150,27 @@ pub fn read_tables_into(
     }
 }
 
+#[cfg(feature = "flat")]
+pub fn read_flat_into(
+    blob: &[u8],
+    nodes: &mut [u32],
+    props: &mut [u32],
+    answer: &mut [u32],
+) -> u32 {
+    unsafe {
+        raw::sunderwath_read_flat(
+            blob.as_ptr(),
+            blob.len(),
+            nodes.as_mut_ptr(),
+            nodes.len(),
+            props.as_mut_ptr(),
+            props.len(),
+            answer.as_mut_ptr(),
+            answer.len(),
+        )
+    }
+}
+
 /// Runs a call with an answer of ten words and checks the number given back.
 fn answered(call: impl FnOnce(&mut [u32]) -> u32) -> Answer {
     let mut words = [0xA5A5_A5A5; ANSWER_WORDS];
@@ -167,4 +201,12 @@ pub fn read_tables(
     rows: &mut [u32],
 ) -> Answer {
     answered(|answer| read_tables_into(width, nodes, props, pool, rows, answer))
+}
+
+#[cfg(feature = "flat")]
+pub fn read_flat(blob: &[u8], nodes: &mut [u32], props: &mut [u32]) -> FlatAnswer {
+    let mut words = [0xA5A5_A5A5; FLAT_ANSWER_WORDS];
+    let number = read_flat_into(blob, nodes, props, &mut words);
+    assert_eq!(number, words[0], "number given back and number written");
+    FlatAnswer::from_words(&words)
 }

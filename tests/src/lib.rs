@@ -5,7 +5,11 @@ pub mod answer;
 pub mod build;
 pub mod cases;
 pub mod compare;
+#[cfg(feature = "flat")]
+pub mod compare_flat;
 pub mod fast;
+#[cfg(feature = "fdt")]
+pub mod fdt;
 pub mod ffi;
 pub mod rng;
 pub mod second;

@@ -13,36 +13,18 @@ use sunderwath_tests::{fast, ffi};
 mod fdt {
     use super::*;
     use sunderwath_tests::build::blob;
-
-    extern "C" {
-        fn bench_fdt_read(
-            blob: *const u8,
-            through_libfdt: i32,
-            rows: *mut u32,
-            words: usize,
-            answer: *mut u32,
-        ) -> i32;
-    }
+    use sunderwath_tests::fdt::read;
 
     /// Time of the reader over libfdt, checked against the expected rows.
     pub fn measure(root: &Node, calls: usize, by_libfdt: bool, expected: &[u32]) -> Option<f64> {
         let blob = blob::write(root);
         let mut rows = vec![0; FULL_ROOM];
         let mut answer = [0; ANSWER_WORDS];
-        let mut failed = 0;
+        let mut read_all = true;
         let time = best_ns(7, calls, || {
-            // SAFETY: the blob is whole, and both parts have the words given.
-            failed |= unsafe {
-                bench_fdt_read(
-                    black_box(blob.as_ptr()),
-                    i32::from(by_libfdt),
-                    rows.as_mut_ptr(),
-                    rows.len(),
-                    answer.as_mut_ptr(),
-                )
-            };
+            read_all &= read(black_box(&blob), by_libfdt, &mut rows, &mut answer);
         });
-        assert_eq!(failed, 0, "the reader over libfdt reads the board");
+        assert!(read_all, "the reader over libfdt reads the board");
         assert_eq!(rows, expected, "rows of the reader over libfdt");
         Some(time)
     }

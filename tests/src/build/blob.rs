@@ -60,16 +60,25 @@ impl Writer {
 
 /// A blob whose root has the given cpus node as its only child.
 pub fn write(cpus: &Node) -> Vec<u8> {
+    write_root(&Node::new("").child(cpus.clone()))
+}
+
+pub fn write_root(root: &Node) -> Vec<u8> {
     let mut writer = Writer {
         structure: Vec::new(),
         strings: Vec::new(),
         names: Vec::new(),
     };
-    writer.node(&Node::new("").child(cpus.clone()));
+    writer.node(root);
     writer.word(END);
+    join(&writer.structure, &writer.strings)
+}
+
+/// A blob with these two blocks.
+pub fn join(structure: &[u8], strings: &[u8]) -> Vec<u8> {
     let structure_at = HEADER_BYTES + RESERVE_BYTES;
-    let strings_at = structure_at + writer.structure.len();
-    let total = strings_at + writer.strings.len();
+    let strings_at = structure_at + structure.len();
+    let total = strings_at + strings.len();
     let header = [
         MAGIC,
         total as u32,
@@ -79,12 +88,12 @@ pub fn write(cpus: &Node) -> Vec<u8> {
         17,
         16,
         0,
-        writer.strings.len() as u32,
-        writer.structure.len() as u32,
+        strings.len() as u32,
+        structure.len() as u32,
     ];
     let mut blob: Vec<u8> = header.iter().flat_map(|w| w.to_be_bytes()).collect();
     blob.resize(structure_at, 0);
-    blob.extend(writer.structure);
-    blob.extend(writer.strings);
+    blob.extend(structure);
+    blob.extend(strings);
     blob
 }

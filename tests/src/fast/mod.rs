@@ -2,9 +2,11 @@
 //! the benchmarks. They share no code with the second reader.
 
 mod board;
+mod flat;
 mod hash;
 mod tables;
 
 pub use board::read_tables;
+pub use flat::{read_blob, read_flat, FlatAnswer};
 pub use hash::{list_hash, list_slot};
 pub use tables::check_tables;

@@ -1,11 +1,19 @@
 //! The second reader, written from the scope paper alone. Each rule is said of
 //! records by quantifiers, and the answer is the least (stage, place, number).
+//! Blobs are read over a list of tokens, in the files `flat*.rs`.
 
+mod flat;
+mod flat_records;
+mod flat_stream;
+mod flat_tokens;
+mod flat_why;
 mod hash;
 mod rows;
 mod rules;
 mod tables;
 
+pub use flat::{flat_answer, flat_tables, read_flat, word_at, FlatTables, Reading, Refusal};
+pub use flat_why::{Why, REASONS};
 pub use hash::{list_hash, list_slot};
 pub use rows::read;
 pub use rules::{stage_of, told};

@@ -1,0 +1,185 @@
+//! The sample boards: accepted or refused, and with which words.
+
+use crate::run::{board, boards, run, text};
+use std::fs;
+
+/// Accepted boards, with the number of processors and the hash line.
+const ACCEPTED: [(&str, usize, &str); 9] = [
+    (
+        "example1",
+        16,
+        "hash: mask 0x100010101, shifts 0 7 14 29, bits 4",
+    ),
+    ("example2", 8, "hash: mask 0x103, shifts 0 6 13 29, bits 3"),
+    (
+        "whole-case",
+        2,
+        "hash: mask 0x100, shifts 0 8 15 31, bits 1",
+    ),
+    ("mixed-smt", 3, "hash: mask 0x3, shifts 0 6 14 30, bits 2"),
+    (
+        "two-sockets",
+        4,
+        "hash: mask 0x100000001, shifts 0 7 15 31, bits 2",
+    ),
+    (
+        "four-clusters",
+        2,
+        "hash: mask 0x1, shifts 0 7 15 31, bits 1",
+    ),
+    ("sparse-hash", 2, "hash: mask 0x5, shifts 0 5 13 29, bits 3"),
+    ("real-life", 4, "hash: mask 0x101, shifts 0 7 14 30, bits 2"),
+    (
+        "vendor-order",
+        4,
+        "hash: mask 0x101, shifts 0 7 14 30, bits 2",
+    ),
+];
+
+/// Refused boards, with number, check name and path.
+const REFUSED: [(&str, u32, &str, &str); 21] = [
+    (
+        "example3",
+        24,
+        "cpu_map_phandle",
+        "/cpus/cpu-map/socket0/cluster0/core2",
+    ),
+    (
+        "example3-corrected",
+        25,
+        "cpu_map_cpu_repeated",
+        "/cpus/cpu-map/socket0/cluster0/core2",
+    ),
+    ("example3-no-phandle", 17, "cpu_phandle", "/cpus/cpu@4"),
+    ("refused-09-size-cells", 9, "cpus_node", "/cpus"),
+    ("refused-10-no-cpu", 10, "cpu_count", "/cpus"),
+    (
+        "refused-11-device-type",
+        11,
+        "cpu_device_type",
+        "/cpus/cpu@1",
+    ),
+    ("refused-12-reg", 12, "cpu_reg", "/cpus/cpu@1000000"),
+    (
+        "refused-13-same-reg",
+        13,
+        "duplicate_cpu_reg",
+        "/cpus/cpu@1",
+    ),
+    ("refused-15-no-map", 15, "cpu_map_missing", "/cpus"),
+    (
+        "refused-16-second-map",
+        16,
+        "cpu_map_duplicate",
+        "/cpus/cpu@1/cpu-map",
+    ),
+    (
+        "refused-18-outside",
+        18,
+        "topology_outside_map",
+        "/cpus/core0",
+    ),
+    (
+        "refused-19-name",
+        19,
+        "cpu_map_name",
+        "/cpus/cpu-map/cluster0/core01",
+    ),
+    (
+        "refused-20-kinds-mixed",
+        20,
+        "cpu_map_kind",
+        "/cpus/cpu-map/cluster0/core1",
+    ),
+    (
+        "refused-20-cores-in-map",
+        20,
+        "cpu_map_kind",
+        "/cpus/cpu-map/core0",
+    ),
+    (
+        "refused-21-order",
+        21,
+        "cpu_map_order",
+        "/cpus/cpu-map/cluster0/core6",
+    ),
+    (
+        "refused-22-five-clusters",
+        22,
+        "cpu_map_depth",
+        "/cpus/cpu-map/cluster0/cluster0/cluster0/cluster0/cluster0",
+    ),
+    (
+        "refused-23-empty-cluster",
+        23,
+        "cpu_map_empty",
+        "/cpus/cpu-map/cluster1",
+    ),
+    (
+        "refused-24-no-cpu",
+        24,
+        "cpu_map_phandle",
+        "/cpus/cpu-map/cluster0/core1",
+    ),
+    (
+        "refused-25-cpu-twice",
+        25,
+        "cpu_map_cpu_repeated",
+        "/cpus/cpu-map/cluster0/core1",
+    ),
+    ("refused-26-unmapped", 26, "cpu_unmapped", "/cpus/cpu@2"),
+    ("refused-34-no-cpus", 34, "blob_cpus", "/"),
+];
+
+#[test]
+fn every_board_is_listed_here() {
+    let mut listed: Vec<String> = ACCEPTED.iter().map(|b| b.0.to_string()).collect();
+    listed.extend(REFUSED.iter().map(|b| b.0.to_string()));
+    listed.sort();
+    let mut found: Vec<String> = fs::read_dir(boards())
+        .expect("the folder is there")
+        .map(|entry| entry.expect("it can be read").path())
+        .filter(|path| path.extension().is_some_and(|e| e == "dts"))
+        .map(|path| path.file_stem().unwrap().to_str().unwrap().to_string())
+        .collect();
+    found.sort();
+    assert_eq!(listed, found);
+}
+
+#[test]
+fn accepted_boards() {
+    for (name, count, hash) in ACCEPTED {
+        let width = if name == "example2" { "32" } else { "64" };
+        let output = run(&["--width", width, &board(name)]);
+        assert_eq!(output.status.code(), Some(0), "{name}");
+        assert_eq!(text(&output.stderr), "");
+        let lines: Vec<&str> = text(&output.stdout).lines().collect();
+        assert_eq!(lines.len(), count + 2, "{name}");
+        let header: Vec<&str> = lines[0].split_whitespace().collect();
+        assert_eq!(
+            header.join(" "),
+            "LEAF CPU MPIDR SOCKET CLUSTER CORE THREAD SLOT"
+        );
+        assert!(lines[1..=count]
+            .iter()
+            .all(|line| line.split_whitespace().count() == 8));
+        assert_eq!(lines[count + 1], hash, "{name}");
+    }
+}
+
+#[test]
+fn refused_boards() {
+    for (name, number, check, path) in REFUSED {
+        let file = board(name);
+        let output = run(&[&file]);
+        assert_eq!(output.status.code(), Some(1), "{name}");
+        assert_eq!(text(&output.stdout), "");
+        let start = format!("{file}: ERROR {number} ({check}): {path}: ");
+        let message = text(&output.stderr);
+        assert!(message.starts_with(&start), "{message}");
+        assert_eq!(message.lines().count(), 1);
+        let quiet = run(&["-q", &file]);
+        assert_eq!(quiet.status.code(), Some(1), "{name}");
+        assert!(quiet.stdout.is_empty() && quiet.stderr.is_empty());
+    }
+}

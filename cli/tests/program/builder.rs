@@ -1,0 +1,151 @@
+//! Builds blobs token by token, right or wrong.
+
+pub const BEGIN: u32 = 1;
+pub const CLOSE: u32 = 2;
+pub const PROP: u32 = 3;
+pub const NOP: u32 = 4;
+pub const END: u32 = 9;
+
+/// Where the structure block stands: behind the header and an empty reservation map.
+pub const START: usize = 56;
+
+#[derive(Clone, Default)]
+pub struct Builder {
+    structure: Vec<u8>,
+    pub strings: Vec<u8>,
+}
+
+impl Builder {
+    /// With a root that is open.
+    pub fn rooted() -> Self {
+        Builder::default().begin("")
+    }
+
+    /// The offset from the blob's start at which the next token will stand.
+    pub fn offset(&self) -> usize {
+        START + self.structure.len()
+    }
+
+    pub fn words(mut self, words: &[u32]) -> Self {
+        let bytes = words.iter().flat_map(|word| word.to_be_bytes());
+        self.structure.extend(bytes);
+        self
+    }
+
+    /// Bytes, and padding to the next word.
+    pub fn bytes(mut self, bytes: &[u8]) -> Self {
+        self.structure.extend_from_slice(bytes);
+        let length = self.structure.len().next_multiple_of(4);
+        self.structure.resize(length, 0);
+        self
+    }
+
+    pub fn begin(self, name: &str) -> Self {
+        self.words(&[BEGIN]).bytes(format!("{name}\0").as_bytes())
+    }
+
+    pub fn close(self) -> Self {
+        self.words(&[CLOSE])
+    }
+
+    /// The offset of a name in the strings block, where it is put if it is new.
+    fn name(&mut self, name: &str) -> u32 {
+        let entry = format!("{name}\0").into_bytes();
+        let found = self.strings.windows(entry.len()).position(|w| w == entry);
+        let at = found.unwrap_or(self.strings.len());
+        if found.is_none() {
+            self.strings.extend(entry);
+        }
+        at as u32
+    }
+
+    pub fn prop(mut self, name: &str, value: &[u8]) -> Self {
+        let name = self.name(name);
+        let head = [PROP, value.len() as u32, name];
+        self.words(&head).bytes(value)
+    }
+
+    pub fn cell(self, name: &str, value: u32) -> Self {
+        self.prop(name, &value.to_be_bytes())
+    }
+
+    fn cpu(self, number: u32) -> Self {
+        self.begin(&format!("cpu@{number}"))
+            .prop("device_type", b"cpu\0")
+            .cell("reg", number)
+            .cell("phandle", number + 1)
+            .close()
+    }
+
+    /// A cpus node of two processors.
+    pub fn cpus(self) -> Self {
+        self.begin("cpus")
+            .cell("#address-cells", 1)
+            .cell("#size-cells", 0)
+            .begin("cpu-map")
+            .begin("cluster0")
+            .begin("core0")
+            .cell("cpu", 1)
+            .close()
+            .begin("core1")
+            .cell("cpu", 2)
+            .close()
+            .close()
+            .close()
+            .cpu(0)
+            .cpu(1)
+            .close()
+    }
+
+    /// A node that has nothing to do with the board.
+    pub fn padding(self, bytes: usize) -> Self {
+        self.begin("padding")
+            .prop("filler", &vec![0x55; bytes])
+            .close()
+    }
+
+    /// The blob as it is, its stream perhaps not closed.
+    pub fn blob(&self) -> Vec<u8> {
+        let strings_at = self.offset() as u32;
+        let (structure, strings) = (self.structure.len() as u32, self.strings.len() as u32);
+        let total = strings_at + strings;
+        let start = START as u32;
+        let header = [
+            0xD00D_FEED,
+            total,
+            start,
+            strings_at,
+            40,
+            17,
+            16,
+            0,
+            strings,
+            structure,
+            0,
+            0,
+            0,
+            0,
+        ];
+        let mut blob: Vec<u8> = header.iter().flat_map(|word| word.to_be_bytes()).collect();
+        blob.extend_from_slice(&self.structure);
+        blob.extend_from_slice(&self.strings);
+        blob
+    }
+
+    /// Closes the root and the stream.
+    pub fn finish(self) -> Vec<u8> {
+        self.words(&[CLOSE, END]).blob()
+    }
+}
+
+/// The blob of a board of two processors.
+pub fn small() -> Vec<u8> {
+    Builder::rooted().cpus().finish()
+}
+
+/// The blob with one word changed.
+pub fn patched(blob: &[u8], at: usize, word: u32) -> Vec<u8> {
+    let mut changed = blob.to_vec();
+    changed[at..at + 4].copy_from_slice(&word.to_be_bytes());
+    changed
+}

@@ -1,0 +1,12 @@
+//! Runs the program, and the parts of it that read blobs, on the sample boards and on blobs made token by token. Needs dtc.
+
+mod blobs;
+mod boards;
+mod builder;
+mod damaged;
+mod formats;
+mod hostile;
+mod large;
+mod run;
+mod streams;
+mod usage;
