@@ -1,5 +1,7 @@
 -- `version_fault` meets its contract: its tests are those of `versionsFault`, in the same order. Assumes nothing.
 use mathlib.Core.Path.{_≡_, _∙_}
+use Prim.Native.Nat.{_≤_}
+use native.Mathlib.Omega.{arith}
 use lib.ListN.{length}
 use borrow.Author.Tests.{lt-ltb, le-ltb}
 use Rattle.header.specs.answers.Fault.{versionsFault, versionFault}
@@ -16,6 +18,10 @@ unfolding versionFault
 by-cells c =
     let total = c .before .before in
     rw (total .wide .ensures ∙ total .before .cell-at .ensures, c .before .cell-at2 .ensures, c .cell-at3 .ensures)
+
+-- the version is read
+new : (c : tie.Else3) → 17 ≤ c .before .before .before .before .cell-at2 .result
+new c = omega (arith, c .if3 .left)
 
 cell-at-requires : tie.Need-cell-at-requires
 cell-at-requires c κs = search needs
@@ -38,7 +44,13 @@ returns-2 c = rw (← by-cells (c .before .before), le-ltb _ _ (c .before .if1 .
 returns-3 : tie.Need-returns-3
 returns-3 c =
     let first = c .before .before in
-    rw (← by-cells (first .before), le-ltb _ _ (first .if1 .left), le-ltb _ _ (c .before .if2 .left), lt-ltb _ _ (c .if3 .taken))
+    let cells = first .before in
+    rw (
+      ← by-cells cells,
+      le-ltb _ _ (first .if1 .left),
+      le-ltb _ _ (c .before .if2 .left),
+      lt-ltb (cells .before .cell-at2 .result) 17 (omega (arith, c .if3 .taken)),
+    )
 
 returns-4 : tie.Need-returns-4
 returns-4 c =
@@ -48,7 +60,7 @@ returns-4 c =
       ← by-cells (first .before),
       le-ltb _ _ (first .if1 .left),
       le-ltb _ _ (test .before .if2 .left),
-      le-ltb _ _ (test .if3 .left),
+      le-ltb _ _ (new test),
       lt-ltb _ _ (c .if4 .taken),
     )
 
@@ -60,7 +72,7 @@ returns-5 c =
       ← by-cells (first .before),
       le-ltb _ _ (first .if1 .left),
       le-ltb _ _ (test .before .if2 .left),
-      le-ltb _ _ (test .if3 .left),
+      le-ltb _ _ (new test),
       le-ltb _ _ (c .if4 .left),
     )
 
