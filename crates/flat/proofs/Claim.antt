@@ -191,6 +191,7 @@ module _ (blob nodes props : List ℕ) where
                         place = refl;
                         cpus = cpus;
                         is-cpus = is-cpus;
+                        one-tree = λ _ other. holds-unique other holds;
                         only = λ _. same;
                         node-table = rw (is-walk, j .0) (over-fits node-words nodes node-fits);
                         prop-table = rw (is-walk, j .1) (over-fits prop-words props prop-fits);

@@ -5,7 +5,9 @@ use mathlib.Core.List.{List, _++_}
 use Prim.Native.Nat.{ℕ, _*_}
 use lib.ListN.{length, drop}
 use Rattle.laws.specs.facts.Limits.{noParent}
+use Rattle.header.specs.facts.Header.{blocksOf}
 use Rattle.stream.specs.facts.Tree.{Nodes, nodeWords, propWords}
+use Rattle.stream.specs.facts.Stream.{Holds}
 use Rattle.flat.specs.declared.BlobAnswer.{BlobAnswer}
 use Rattle.flat.specs.facts.Rules.{Cpus, BlobRule, BlobTold}
 use Rattle.flat.specs.facts.Tables.{boardOf, OnlyLeft}
@@ -22,11 +24,13 @@ pub record BlobRefused (blob nodes props : List ℕ) (answer : BlobAnswer) (node
   pub node-table : nodes′ ≡ nodes
   pub prop-table : props′ ≡ props
 
--- an acceptance: the one `/cpus` node of the blob's tree, its records and no others in both tables, both counts, and the board that they make
+-- an acceptance: the one tree that the blob holds and its one `/cpus` node, that node's records and no others in both tables, both counts, and
+-- the board that they make
 pub record BlobAccepted (blob nodes props : List ℕ) (answer : BlobAnswer) (nodes′ props′ : List ℕ) : Type 0 where
   pub place : answer .place ≡ 0
   pub cpus : Nodes
   pub is-cpus : Cpus blob cpus
+  pub one-tree : (other : Nodes) → Holds (blocksOf blob) other → other ≡ is-cpus .tree
   pub only : (other : Nodes) → Cpus blob other → other ≡ cpus
   pub node-table : AtFront (nodeWords noParent 0 cpus) nodes nodes′
   pub prop-table : AtFront (propWords 0 cpus) props props′
