@@ -17,8 +17,7 @@ use Rattle.tokens.specs.answers.Read.{knownRead}
 use Rattle.tokens.specs.declared.TokenRead.{TokenRead}
 use Rattle.tokens.specs.facts.Token.{Blocks, Token, begin, close, property, nop, finish, TokenAt, Run, stop, more}
 use Rattle.tokens.specs.facts.Token.{beginAt, closeAt, propertyAt, nopAt, finishAt}
-use Rattle.tokens.proofs.StringLaws.{string-zero}
-use Rattle.tokens.proofs.TokenLaws.{forget, nameLengthAt}
+use Rattle.tokens.proofs.TokenLaws.{forget, name-length, token-long}
 use Rattle.stream.specs.facts.Tree.{Property, Nodes, empty, node, tokensOf, sizeOf, nodeWords, propWords, CpusAmong, none, named, other}
 use Rattle.stream.specs.facts.Stream.{withoutNops, Root, root}
 use Rattle.stream.specs.answers.Walk.{cpusMark}
@@ -157,9 +156,7 @@ module _ (b : Blocks) where
   one-token k at f ts (closeAt c) ih = ap (λ (x : Filled). cond (hasOuter (f .open-record) (f .count)) x f) (ih (nodeClosed f))
   one-token k at f ts (propertyAt {offset = offset} {len = len} c d g le h) ih =
       let back : b .strings-at + offset - b .strings-at ≡ offset = omega arith in
-      let z = string-zero (b .strings) offset len h in
-      let same : nameLengthAt (b .strings) offset ≡ len = omega arith in
-      rw (back, same) (ih _)
+      rw (back, name-length (b .strings) offset len h) (ih _)
   one-token k at f ts (nopAt c) ih = ih f
   one-token k at f ts (finishAt c) ih = refl
 
@@ -194,14 +191,7 @@ module _ (b : Blocks) where
   begin-place : {at n l p : ℕ} {ts : List Token} → Run b at (begin n l ∷ ts) p → at ≡ n - 4
   begin-place (more (beginAt c h) r) = omega arith
 
-  -- a token takes four bytes at least
-  token-long : {at next : ℕ} {t : Token} → TokenAt b at t next → at + 4 ≤ next
-  token-long (beginAt c h) = omega arith
-  token-long (closeAt c) = omega arith
-  token-long (propertyAt c d g le h) = omega arith
-  token-long (nopAt c) = omega arith
-  token-long (finishAt c) = omega arith
-
+  -- a run takes a byte at least for each token
   run-long : {a p : ℕ} {ts : List Token} → Run b a ts p → a + length ts ≤ p
   run-long stop = omega arith
   run-long (more h r) = omega (arith, token-long h, run-long r)

@@ -13,7 +13,7 @@ use Rattle.tokens.specs.declared.TokenRead.the-variants.{Begin, Close, Property
 use Rattle.tokens.specs.facts.Token.{Blocks, Token, begin, close, property, nop, finish, TokenAt, Run, stop, more}
 use Rattle.tokens.specs.facts.Token.{beginAt, closeAt, propertyAt, nopAt, finishAt}
 use Rattle.tokens.specs.answers.Read.{behindZero, tokenRead}
-use Rattle.tokens.proofs.TokenLaws.{Means, token-means}
+use Rattle.tokens.proofs.TokenLaws.{Means, token-long, token-means}
 use Rattle.stream.specs.declared.Walk.{Walk}
 use Rattle.stream.specs.declared.Next.the-variants.{On, Ends, Breaks}
 use Rattle.stream.specs.declared.Surveyed.{Surveyed}
@@ -31,18 +31,18 @@ run-snoc : {b : Blocks} {a p next : ℕ} {t : Token} {ts : List Token} → Run b
 run-snoc stop k = more k stop
 run-snoc (more h r) k = more h (run-snoc r k)
 
--- where the next token stands
+-- the next token stands in the block or at its end, at a multiple of four
 token-next :
     {b : Blocks} {at next : ℕ} {t : Token} →
     TokenAt b at t next →
     at % 4 ≡ 0 →
     length (b .structure) % 4 ≡ 0 →
-    (at + 4 ≤ next) × (next ≤ length (b .structure)) × (next % 4 ≡ 0)
-token-next (beginAt c h) e f = let i = h .inside in (omega arith, omega arith, omega arith)
-token-next (closeAt c) e f = let i = c .inside in (omega arith, omega arith, omega arith)
-token-next (propertyAt c d g le h) e f = (omega arith, omega arith, omega arith)
-token-next (nopAt c) e f = let i = c .inside in (omega arith, omega arith, omega arith)
-token-next (finishAt c) e f = let i = c .inside in (omega arith, omega arith, omega arith)
+    (next ≤ length (b .structure)) × (next % 4 ≡ 0)
+token-next (beginAt c h) e f = let i = h .inside in (omega arith, omega arith)
+token-next (closeAt c) e f = let i = c .inside in (omega arith, omega arith)
+token-next (propertyAt c d g le h) e f = (omega arith, omega arith)
+token-next (nopAt c) e f = let i = c .inside in (omega arith, omega arith)
+token-next (finishAt c) e f = let i = c .inside in (omega arith, omega arith)
 
 -- the end token stands in no stream that still leads to the end
 no-finish : (ts rest : List Token) {d : ℕ} {f : Bool} → Leads d f (ts ++ (finish ∷ rest)) → ⊥
@@ -124,14 +124,14 @@ module _ (b : Blocks) (even : length (b .structure) % 4 ≡ 0) where
           Tells b (on k v)
       goes v {t} {next} {d} {e} {f} {g} s h m x y z n =
           let after = token-next h (c .whole-cell) even in
-          let far = after .0 in
-          let near = after .1 in
+          let far = token-long h in
+          let near = after .0 in
           let all = ts ++ (t ∷ []) in
           ih v all
           (record {
             state = subst (λ (q : ℕ). State all q (v .fresh)) (sym y) (subst (State all e) (sym z) (state-move s m));
             run = subst (Run b (b .start) all) (sym x) (run-snoc (c .run) h);
-            whole-cell = ap (λ (q : ℕ). q % 4) x ∙ after .2;
+            whole-cell = ap (λ (q : ℕ). q % 4) x ∙ after .1;
             counted = n ∙ ap (tallyOne block t) (c .counted) ∙ sym (tally-snoc block ts t noTally);
           })
           (omega arith)

@@ -9,8 +9,7 @@ use Rattle.tokens.specs.declared.TokenRead.{TokenRead}
 use Rattle.tokens.specs.declared.TokenRead.the-variants.{Begin, Close, Property, Nop, End, Unsound}
 use Rattle.tokens.specs.facts.Token.{Blocks, Token, begin, close, property, nop, finish, TokenAt, Run, stop, more}
 use Rattle.tokens.specs.facts.Token.{beginAt, closeAt, propertyAt, nopAt, finishAt}
-use Rattle.tokens.proofs.StringLaws.{string-zero}
-use Rattle.tokens.proofs.TokenLaws.{forget, nameLengthAt, token-found}
+use Rattle.tokens.proofs.TokenLaws.{forget, nameLengthAt, name-length, token-found}
 use Rattle.stream.specs.facts.Tree.{Nodes, empty, node, propertyTokens, tokensOf}
 use Rattle.stream.specs.facts.Tree as tree-facts
 use Rattle.stream.specs.facts.Stream.{withoutNops, WholeStream, Begins, Holds, BrokenAt}
@@ -111,10 +110,8 @@ module _ {b : Blocks} where
   told (beginAt c h) = (refl, refl)
   told (closeAt c) = (refl, refl)
   told (propertyAt {offset} {len} c d g le h) =
-      let z = string-zero (b .strings) offset len h in
       let back : b .strings-at + offset - b .strings-at ≡ offset = omega arith in
-      let same : nameLengthAt (b .strings) offset ≡ len = omega arith in
-      (rw (back, same), refl)
+      (rw (back, name-length (b .strings) offset len h), refl)
   told (nopAt c) = (refl, refl)
   told (finishAt c) = (refl, refl)
 

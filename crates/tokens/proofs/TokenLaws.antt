@@ -38,6 +38,18 @@ forget b finish next = End
 abbrev pub nameLengthAt : List ℕ → ℕ → ℕ
 nameLengthAt strings name = zeroFrom strings name - name
 
+-- a string of the strings block has that length
+pub name-length : (strings : List ℕ) (name len : ℕ) → StringAt strings name len → nameLengthAt strings name ≡ len
+name-length strings name len h = let z = string-zero strings name len h in omega arith
+
+-- a token takes four bytes at least
+pub token-long : {b : Blocks} {at next : ℕ} {t : Token} → TokenAt b at t next → at + 4 ≤ next
+token-long (beginAt c h) = omega arith
+token-long (closeAt c) = omega arith
+token-long (propertyAt c d e le h) = omega arith
+token-long (nopAt c) = omega arith
+token-long (finishAt c) = omega arith
+
 -- what reading finds at a place, as a fact
 abbrev Stands : Blocks → ℕ → TokenRead → Type 0
 Stands b at (Begin len next) = TokenAt b at (begin (at + 4) len) next
