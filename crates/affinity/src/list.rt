@@ -6,9 +6,11 @@ use super::slot::slot_of;
 use crate::Hash;
 use crate::ListHash;
 use crate::ListSlot;
+use laws::CLEAR;
 use laws::Fault;
 use laws::is_among;
 use laws::limits::MAX_CPUS;
+use laws::limits::NO_PROPERTY;
 use laws::rules;
 ghost use mathlib.Core.Path.{_≡_};
 ghost use Rattle.affinity.specs.answers.List.{firstOutside, hashAnswer, slotAnswer};
@@ -120,12 +122,10 @@ fn first_outside(list: &[u64]) -> Fault
             return Fault {
                 number: rules::LIST_MPIDR,
                 place: i,
+                second: NO_PROPERTY,
             };
         }
         i += 1;
     }
-    Fault {
-        number: 0,
-        place: 0,
-    }
+    CLEAR
 }

@@ -6,68 +6,44 @@ use Prim.Native.Nat.{ℕ, _*_, _≤_, _<_}
 use native.Mathlib.Omega.{arith}
 use lib.Dec.{eqb, ltb}
 use lib.ListN.{length}
-use borrow.Author.Tests.{eq-eqb, ne-eqb, eqb-true, lt-ltb, le-ltb}
+use borrow.Author.Tests.{eq-eqb, ne-eqb, lt-ltb, le-ltb}
 use Rattle.laws.specs.declared.Fault.{Fault}
-use Rattle.laws.specs.answers.Fault.{told}
+use Rattle.laws.specs.facts.Limits.{noProperty}
+use Rattle.laws.specs.answers.Fault.{plain, told}
 use Rattle.laws.proofs.FaultLaws.{or-first, or-second}
 use Rattle.layout.specs.facts.Row.{rowSize}
 use Rattle.affinity.specs.declared.Hash.{Hash}
 use Rattle.affinity.specs.answers.Hash.{hashOf}
 use Rattle.tables.specs.facts.Board.{Board, WordSized}
 use Rattle.cpus.specs.answers.Check.{cpuCount, mpidrList}
-use Rattle.cpumap.specs.declared.MapScan.{MapScan}
 use Rattle.cpumap.specs.answers.Find.{mapOf, mapFault, mapScan}
 use Rattle.leaves.specs.answers.Scan.{leavesOf}
 use Rattle.rows.specs.answers.Write.{written, sourceOf}
 use Rattle.demands.specs.declared.BoardAnswer.{BoardAnswer}
 use Rattle.board.specs.declared.Surveyed.{Surveyed}
 use Rattle.demands.specs.answers.Survey.{surveyFault}
-use Rattle.board.specs.steps.Survey.{surveyOf}
+use Rattle.board.specs.steps.Survey.{stopped, surveyOf}
 use Rattle.demands.specs.answers.Answer.{boardFault, refusedWith, answerOf, rowsAfter}
 use Rattle.demands.specs.facts.Reading.{Demands}
 use Rattle.demands.proofs.Claim.{demands}
 
--- A scan: `good` where the fault tells nothing, and else `bad`, which holds the fault's number and place.
-module _ {A : Type 0} (f : Fault) (good bad : A) where
-  abbrev scanned : A
-  scanned = cond (eqb (f .number) 0) good bad
-
-  pub scan-good : f .number ≡ 0 → scanned ≡ good
-  scan-good z = rw (eq-eqb (f .number) 0 z)
-
-  pub scan-number : (number : A → ℕ) → number good ≡ 0 → number bad ≡ f .number → number scanned ≡ f .number
-  scan-number number g h = go (eqb (f .number) 0) refl
-    where
-      go : (t : Bool) → eqb (f .number) 0 ≡ t → number (cond t good bad) ≡ f .number
-      go true e = g ∙ sym (eqb-true (f .number) 0 e)
-      go false e = h
-
-  pub scan-place : (place : A → ℕ) → place bad ≡ f .place → (f .number ≡ 0 → ⊥) → place scanned ≡ f .place
-  scan-place place h ne = rw (ne-eqb (f .number) 0 ne) h
-
--- the scan for the map
-module _ (nodes pool : List ℕ) where
-  pub map-number : mapScan nodes pool .number ≡ mapFault nodes pool .number
-  unfolding mapScan
-  map-number = scan-number (mapFault nodes pool) _ _ (λ (r : MapScan). r .number) refl refl
-
-  pub map-place : (mapFault nodes pool .number ≡ 0 → ⊥) → mapScan nodes pool .place ≡ mapFault nodes pool .place
-  unfolding mapScan
-  map-place = scan-place (mapFault nodes pool) _ _ (λ (r : MapScan). r .place) refl
-
-  pub map-root : mapFault nodes pool .number ≡ 0 → mapScan nodes pool .map ≡ mapOf nodes pool
-  unfolding mapScan
-  map-root z = ap (λ (r : MapScan). r .map) (scan-good (mapFault nodes pool) _ _ z)
+-- the map's record
+pub map-root : (nodes pool : List ℕ) → mapFault nodes pool .number ≡ 0 → mapScan nodes pool .map ≡ mapOf nodes pool
+unfolding mapScan
+map-root nodes pool z = rw (eq-eqb (mapFault nodes pool .number) 0 z)
 
 -- the survey
 module _ (b : Board) where
-  pub survey-number : surveyOf b .number ≡ surveyFault b .number
+  pub survey-fault : surveyOf b .fault ≡ surveyFault b
   unfolding surveyOf
-  survey-number = scan-number (surveyFault b) _ _ (λ (r : Surveyed). r .number) refl refl
+  survey-fault = go (eqb (surveyFault b .number) 0)
+    where
+      clear : Surveyed
+      clear = record { fault = surveyFault b; cpus = cpuCount b; leaves = length (leavesOf b) }
 
-  pub survey-place : (surveyFault b .number ≡ 0 → ⊥) → surveyOf b .place ≡ surveyFault b .place
-  unfolding surveyOf
-  survey-place = scan-place (surveyFault b) _ _ (λ (r : Surveyed). r .place) refl
+      go : (t : Bool) → cond t clear (stopped (surveyFault b)) .fault ≡ surveyFault b
+      go true = refl
+      go false = refl
 
   pub survey-counts : surveyFault b .number ≡ 0 → (surveyOf b .cpus ≡ cpuCount b) × (surveyOf b .leaves ≡ length (leavesOf b))
   unfolding surveyOf
@@ -82,27 +58,25 @@ module _ {b : Board} (sized : WordSized b) (before : List ℕ) where
   met e g = (e, (g, rw (e, g) (demands sized before)))
 
   -- a fault is told
-  refuses :
-      {r : BoardAnswer} {f : Fault} → boardFault b (length before) ≡ f → (f .number ≡ 0 → ⊥) → r ≡ refusedWith (f .number) (f .place) → Met r before
+  refuses : {r : BoardAnswer} {f : Fault} → boardFault b (length before) ≡ f → (f .number ≡ 0 → ⊥) → r ≡ refusedWith f → Met r before
   unfolding answerOf rowsAfter
   refuses {r} {f} e ne is = met (rw (e, ne-eqb (f .number) 0 ne) is) (rw (e, ne-eqb (f .number) 0 ne))
 
   -- by the survey
   module _ {s : Surveyed} (found : s ≡ surveyOf b) where
-    number-is : s .number ≡ surveyFault b .number
-    number-is = ap (λ (r : Surveyed). r .number) found ∙ survey-number b
+    fault-is : s .fault ≡ surveyFault b
+    fault-is = ap (λ (r : Surveyed). r .fault) found ∙ survey-fault b
 
-    pub refuses-survey : {r : BoardAnswer} → (s .number ≡ 0 → ⊥) → r ≡ refusedWith (s .number) (s .place) → Met r before
+    pub refuses-survey : {r : BoardAnswer} → (s .fault .number ≡ 0 → ⊥) → r ≡ refusedWith (s .fault) → Met r before
     unfolding boardFault
     refuses-survey {r} ne is =
-        let some : surveyFault b .number ≡ 0 → ⊥ = λ z. ne (number-is ∙ z) in
-        let place = ap (λ (r : Surveyed). r .place) found ∙ survey-place b some in
-        refuses (or-first (surveyFault b) _ some) some (is ∙ rw (number-is, place))
+        let some : surveyFault b .number ≡ 0 → ⊥ = rw fault-is at ne in
+        refuses (or-first (surveyFault b) _ some) some (is ∙ ap refusedWith fault-is)
 
     -- a survey that tells nothing
-    module _ (z : s .number ≡ 0) where
+    module _ (z : s .fault .number ≡ 0) where
       pub none : surveyFault b .number ≡ 0
-      none = sym number-is ∙ z
+      none = ap (λ (f : Fault). f .number) (sym fault-is) ∙ z
 
       pub counts : (s .cpus ≡ cpuCount b) × (s .leaves ≡ length (leavesOf b))
       counts = (ap (λ (r : Surveyed). r .cpus) found ∙ survey-counts b none .0, ap (λ (r : Surveyed). r .leaves) found ∙ survey-counts b none .1)
@@ -112,7 +86,7 @@ module _ {b : Board} (sized : WordSized b) (before : List ℕ) where
       at-room t e = or-second (surveyFault b) _ none ∙ rw e
 
       -- rule 27
-      pub refuses-room : {r : BoardAnswer} → length before < rowSize * cpuCount b → r ≡ refusedWith 27 0 → Met r before
+      pub refuses-room : {r : BoardAnswer} → length before < rowSize * cpuCount b → r ≡ refusedWith (plain 27 0) → Met r before
       refuses-room lt is = refuses (at-room true (lt-ltb _ _ lt)) (λ w. omega arith) is
 
       pub accepts :
@@ -121,6 +95,6 @@ module _ {b : Board} (sized : WordSized b) (before : List ℕ) where
           count ≡ cpuCount b →
           hash ≡ hashOf (mpidrList b) →
           after ≡ written (sourceOf b) before →
-          Met (record { number = 0; place = 0; count = count; hash = hash }) after
+          Met (record { number = 0; place = 0; second = noProperty; count = count; hash = hash }) after
       unfolding answerOf rowsAfter
       accepts le e h wrote = let clear = at-room false (le-ltb _ _ le) in met (rw (clear, e, h)) (rw clear wrote)

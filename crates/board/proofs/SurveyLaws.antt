@@ -31,7 +31,7 @@ use Rattle.cpus.proofs.CpuMeans.{cpu-count}
 use Rattle.cpus.proofs.ScanLaws.{same-reading, numbers-clear}
 use Rattle.cpumap.specs.answers.Find.{mapOf, mapFault}
 use Rattle.leaves.specs.answers.Scan.{lentTree, leavesFault, treeOf, leavesOf}
-use Rattle.leaves.proofs.CellLaws.{same-cells}
+use Rattle.leaves.proofs.PropertyLaws.{same-cpus}
 use Rattle.leaves.proofs.ScanLaws.{leaves-few}
 use Rattle.laws.specs.answers.Listed.{laidOver}
 use Rattle.board.specs.declared.Surveyed.{Surveyed}
@@ -57,7 +57,7 @@ module _ (b : Board) where
   fromCount = orElse (told (countFault (cpuCount b)) 0) fromCpus
 
   abbrev pub fromRoot : Fault
-  fromRoot = orElse (told (rootFault b) 0) fromCount
+  fromRoot = orElse (rootFault b) fromCount
 
   pub survey-stages : surveyFault b ≡ orElse (tableFault b) fromRoot
   unfolding surveyFault cpusFault
@@ -65,38 +65,32 @@ module _ (b : Board) where
 
   -- what the contract asks where a fault is told, and where none is
   module _ {r : Surveyed} {A : Type 0} where
-    pub tells :
-        {f : Fault} {n p : ℕ} →
-        surveyFault b ≡ f →
-        r ≡ stopped n p →
-        (n ≡ 0 → ⊥) →
-        n ≡ f .number →
-        p ≡ f .place →
-        (r ≡ surveyOf b) × (surveyFault b .number ≡ 0 → A)
+    pub tells : {f g : Fault} → surveyFault b ≡ f → r ≡ stopped g → (g .number ≡ 0 → ⊥) → g ≡ f → (r ≡ surveyOf b) × (surveyFault b .number ≡ 0 → A)
     unfolding surveyOf
-    tells {f} e is ne en ep =
-        let some : surveyFault b .number ≡ 0 → ⊥ = λ z. ne (en ∙ ap (λ (a : Fault). a .number) (sym e) ∙ z) in
-        (rw (ne-eqb (surveyFault b .number) 0 some) (is ∙ rw (e, en, ep)), λ z. absurd (some z))
+    tells {g = g} e is ne same =
+        let told : surveyFault b ≡ g = e ∙ sym same in
+        (rw (told, ne-eqb (g .number) 0 ne) is, λ z. absurd (ne (ap (λ (f : Fault). f .number) (sym told) ∙ z)))
 
     pub tells-first :
-        {n p : ℕ} (f rest : Fault) →
+        {g : Fault} (f rest : Fault) →
         surveyFault b ≡ orElse f rest →
-        r ≡ stopped n p →
-        (n ≡ 0 → ⊥) →
-        n ≡ f .number →
-        p ≡ f .place →
+        r ≡ stopped g →
+        (g .number ≡ 0 → ⊥) →
+        g ≡ f →
         (r ≡ surveyOf b) × (surveyFault b .number ≡ 0 → A)
-    tells-first f rest e is ne en ep = tells (e ∙ or-first f rest (λ z. ne (en ∙ z))) is ne en ep
+    tells-first f rest e is ne same =
+        tells (e ∙ or-first f rest (λ z. ne (ap (λ (a : Fault). a .number) same ∙ z))) is ne same
 
   pub clears :
-      {cpus leaves : ℕ} {A : Type 0} →
+      {f : Fault} {cpus leaves : ℕ} {A : Type 0} →
+      f ≡ surveyFault b →
       surveyFault b .number ≡ 0 →
       cpus ≡ cpuCount b →
       leaves ≡ length (leavesOf b) →
       A →
-      (record { number = 0; place = 0; cpus = cpus; leaves = leaves } ≡ surveyOf b) × (surveyFault b .number ≡ 0 → A)
+      (record { fault = f; cpus = cpus; leaves = leaves } ≡ surveyOf b) × (surveyFault b .number ≡ 0 → A)
   unfolding surveyOf
-  clears z e g a = (rw (eq-eqb (surveyFault b .number) 0 z, e, g), λ _. a)
+  clears same z e g a = (rw (eq-eqb (surveyFault b .number) 0 z, same, e, g), λ _. a)
 
 -- no cpu record of a well-formed table is left out
 module _ (b : Board) (well : WellFormed b) where
@@ -116,7 +110,7 @@ boardKeys b = indexed (replicate 4096 0) (b .props) (b .pool)
 
 -- a board with well-formed tables; what was read before a stage
 module _ (b : Board) (well : WellFormed b) {index records : List ℕ} (keys-are : index ≡ boardKeys b) (records-are : records ≡ cpuList b) where
-  finds : (i : ℕ) (key : Key) → indexedAt index i key ≡ lookup (b .props) (b .pool) i (keyName key)
+  finds : (i : ℕ) (key : Key) → indexedAt (b .props) index i key ≡ lookup (b .props) (b .pool) i (keyName key)
   finds =
       rw keys-are
       (index-finds (b .props) (b .pool) (wf-props well .0)
@@ -152,7 +146,7 @@ module _ (b : Board) (well : WellFormed b) {index records : List ℕ} (keys-are 
   tree-is {phandles = phandles} root-is phandles-are few =
       let fits : length (b .nodes) ≤ 3 * maxNodes = omega (arith, wf-nodes well .1, wf-nodes well .2) in
       let whole : take (3 * maxNodes) (b .nodes) ≡ b .nodes = take-all (3 * maxNodes) (b .nodes) fits in
-      rw (root-is, whole, take-all maxCpus phandles few ∙ phandles-are, same-cells (b .props) (b .pool) index (λ i. finds i Cpu))
+      rw (root-is, whole, take-all maxCpus phandles few ∙ phandles-are, same-cpus (b .props) (b .pool) index (λ i. finds i Cpu))
 
 -- where the survey tells nothing, there are few cpu records, and no more leaves than these
 pub survey-few : (b : Board) → surveyFault b .number ≡ 0 → (cpuCount b ≤ maxCpus) × (length (leavesOf b) ≤ cpuCount b)

@@ -1,9 +1,11 @@
-// The board reader: a board's tables in, rows and save slots out, or the number and the place of the first rule broken.
+// The board reader: a board's tables in, rows and save slots out, or the first rule broken, where, and of which property.
 mod survey;
 
 use affinity::Hash;
 use demands::BoardAnswer;
+use laws::Fault;
 use laws::limits::MAX_CPUS;
+use laws::limits::NO_PROPERTY;
 use laws::rules;
 use layout::ROW_WORDS;
 use survey::survey;
@@ -13,20 +15,20 @@ ghost use Rattle.tables.specs.facts.Board.{board};
 ghost use Rattle.demands.specs.answers.Answer.{refusedWith, answerOf, rowsAfter};
 ghost use Rattle.demands.specs.facts.Reading.{Demands};
 
-// What a survey answers: number 0 and place 0, with the counts of the cpu records and of the leaves; or a refusal, in which these are 0.
+// What a survey answers: no fault, with the counts of the cpu records and of the leaves; or a fault, with which these are 0.
 struct Surveyed {
-    pub number: u32,
-    pub place: usize,
+    pub fault: Fault,
     pub cpus: usize,
     pub leaves: usize,
 }
 
-fn refused(number: u32, place: usize) -> BoardAnswer
-    ensures { λ r. ⌜ r ≡ refusedWith number place ⌝ }
+fn refused(fault: Fault) -> BoardAnswer
+    ensures { λ r. ⌜ r ≡ refusedWith fault ⌝ }
 {
     BoardAnswer {
-        number,
-        place,
+        number: fault.number,
+        place: fault.place,
+        second: fault.second,
         count: 0,
         hash: Hash {
             mask: 0,
@@ -68,12 +70,16 @@ pub fn read_tables(
         &mut leaves,
         &mut named,
     );
-    if found.number != 0 {
-        return refused(found.number, found.place);
+    if found.fault.number != 0 {
+        return refused(found.fault);
     }
     let count = found.cpus;
     if rows.len() / ROW_WORDS < count {
-        return refused(rules::ROW_SPACE, 0);
+        return refused(Fault {
+            number: rules::ROW_SPACE,
+            place: 0,
+            second: NO_PROPERTY,
+        });
     }
     let listed = &mpidrs[..count];
     let hash = affinity::hash_of_mask(affinity::mask_of(listed));
@@ -91,6 +97,7 @@ pub fn read_tables(
     BoardAnswer {
         number: 0,
         place: 0,
+        second: NO_PROPERTY,
         count,
         hash,
     }

@@ -1,27 +1,26 @@
-// Rules 1 to 26, and what the rows are made of: the cpu records, their MPIDRs, the leaves and the cpus that they name.
+// Rules 1 to 26, 36 and 37, and what the rows are made of: the cpu records, their MPIDRs, the leaves and the cpus that they name.
 use crate::Surveyed;
 use cpus::CpuNumbers;
-use cpus::RootCells;
+use laws::Fault;
 use laws::limits::MAX_CPUS;
-use laws::rules;
+use laws::limits::NO_PROPERTY;
 use property_index::INDEX_WORDS;
 ghost use mathlib.Core.Path.{_≡_};
 ghost use Rattle.tables.specs.facts.Board.{board};
 ghost use Rattle.board.specs.steps.Survey.{stopped, surveyOf, Lists};
 ghost use Rattle.demands.specs.answers.Survey.{surveyFault};
 
-fn stop(number: u32, place: usize) -> Surveyed
-    ensures { λ r. ⌜ r ≡ stopped number place ⌝ }
+fn stop(fault: Fault) -> Surveyed
+    ensures { λ r. ⌜ r ≡ stopped fault ⌝ }
 {
     Surveyed {
-        number,
-        place,
+        fault,
         cpus: 0,
         leaves: 0,
     }
 }
 
-// Checks rules 1 to 26, and lists what the rows are made of. What the lists hold after a refusal is not said.
+// Checks rules 1 to 26, 36 and 37, and lists what the rows are made of. What the lists hold after a refusal is not said.
 pub fn survey(
     width: u32,
     nodes: &[u32],
@@ -43,15 +42,21 @@ pub fn survey(
 {
     let fault = wellformed::table_fault(width, nodes, props, pool);
     if fault.number != 0 {
-        return stop(fault.number, fault.place);
+        return stop(fault);
     }
-    let RootCells::Are(cells) = cpus::read_cells(width, nodes, props, pool) else {
-        return stop(rules::CPUS_NODE, 0);
-    };
+    let root = cpus::read_root(width, nodes, props, pool);
+    if root.fault.number != 0 {
+        return stop(root.fault);
+    }
+    let cells = root.cells;
     let count = cpus::list_cpus(nodes, pool, cpus);
     let number = cpus::count_fault(count);
     if number != 0 {
-        return stop(number, 0);
+        return stop(Fault {
+            number,
+            place: 0,
+            second: NO_PROPERTY,
+        });
     }
     let whole = &cpus[..];
     let listed = &whole[..count];
@@ -66,11 +71,11 @@ pub fn survey(
         mpidrs,
     );
     if fault.number != 0 {
-        return stop(fault.number, fault.place);
+        return stop(fault);
     }
     let map = cpumap::find_map(nodes, pool);
-    if map.number != 0 {
-        return stop(map.number, map.place);
+    if map.fault.number != 0 {
+        return stop(map.fault);
     }
     let mut phandles = [0u64; MAX_CPUS];
     let fault = cpus::read_numbers(
@@ -82,7 +87,7 @@ pub fn survey(
         &mut phandles,
     );
     if fault.number != 0 {
-        return stop(fault.number, fault.place);
+        return stop(fault);
     }
     let tree = leaves::read_tree(
         nodes,
@@ -95,12 +100,12 @@ pub fn survey(
         leaves,
         named,
     );
-    if tree.number != 0 {
-        return stop(tree.number, tree.place);
+    let last = tree.fault;
+    if last.number != 0 {
+        return stop(last);
     }
     Surveyed {
-        number: 0,
-        place: 0,
+        fault: last,
         cpus: count,
         leaves: tree.count,
     }

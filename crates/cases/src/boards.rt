@@ -31,5 +31,6 @@ fn read(nodes: &[u32], props: &[u32]) {
     let answer = board::read_tables(width, nodes, props, &pool[..b], &mut rows[..r]);
     let hash = answer.hash;
     say::answer(answer.number, answer.place, answer.count, hash);
+    say::told(answer.second as u64);
     say::words(&rows[..r]);
 }

@@ -8,7 +8,7 @@ use lib.Dec.{ltb}
 use lib.ListN.{length, set}
 use borrow.Author.Tests.{lt-ltb, le-ltb, le-leb, lt-leb, eq-eqb, ne-eqb}
 use Rattle.laws.specs.declared.Fault.{Fault}
-use Rattle.laws.specs.answers.Fault.{firstFault}
+use Rattle.laws.specs.answers.Fault.{plain, firstFault}
 use Rattle.layout.specs.facts.Row.{gap}
 use Rattle.names.specs.declared.TopologyName.{TopologyName}
 use Rattle.names.specs.declared.TopologyName.the-variants.{Socket, Cluster, Core, Thread, Other}
@@ -120,7 +120,7 @@ module _ (nodes pool : List ℕ) where
   abbrev seconds : Fault
   seconds = firstFault (secondMapFault nodes pool) (nodeCount nodes)
 
-  pub map-none : {m : ℕ} → m ≡ mapOf nodes pool → nodeCount nodes ≤ m → record { number = 15; place = 0; map = 0 } ≡ mapScan nodes pool
+  pub map-none : {m : ℕ} → m ≡ mapOf nodes pool → nodeCount nodes ≤ m → record { fault = plain 15 0; map = 0 } ≡ mapScan nodes pool
   unfolding mapScan mapFault
   map-none e le = rw (le-ltb (mapOf nodes pool) (nodeCount nodes) (rw e at le))
 
@@ -134,7 +134,7 @@ module _ (nodes pool : List ℕ) where
       m < nodeCount nodes →
       f ≡ seconds →
       (f .number ≡ 0 → ⊥) →
-      record { number = f .number; place = f .place; map = 0 } ≡ mapScan nodes pool
+      record { fault = f; map = 0 } ≡ mapScan nodes pool
   unfolding mapScan
   map-second {m} {f} e lt s ne = rw (past-map e lt s, ne-eqb (f .number) 0 ne)
 
@@ -144,6 +144,6 @@ module _ (nodes pool : List ℕ) where
       m < nodeCount nodes →
       f ≡ seconds →
       f .number ≡ 0 →
-      record { number = 0; place = 0; map = m } ≡ mapScan nodes pool
+      record { fault = f; map = m } ≡ mapScan nodes pool
   unfolding mapScan
   map-found {m} {f} e lt s z = rw (past-map e lt s, eq-eqb (f .number) 0 z, ← e)

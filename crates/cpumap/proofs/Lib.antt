@@ -3,6 +3,7 @@ pub mod NumberLaws
 pub mod NameFacts
 pub mod MapMeans
 pub mod MapTells
+pub mod SecondMap
 pub mod MapNameLaws
 pub mod WithinMeans
 pub mod PathMeans

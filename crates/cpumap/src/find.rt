@@ -1,6 +1,8 @@
 // Finding the map: rules 15 and 16.
 use crate::MapScan;
+use laws::CLEAR;
 use laws::Fault;
+use laws::limits::NO_PROPERTY;
 use laws::rules;
 use tables::binding;
 use tables::cell_at;
@@ -76,14 +78,15 @@ fn second_map(nodes: &[u32], pool: &[u8], map: usize) -> Fault
     while i < n {
         let number = second_map_fault(nodes, pool, map, i);
         if number != 0 {
-            return Fault { number, place: i };
+            return Fault {
+                number,
+                place: i,
+                second: NO_PROPERTY,
+            };
         }
         i += 1;
     }
-    Fault {
-        number: 0,
-        place: 0,
-    }
+    CLEAR
 }
 
 // The map's record, or the first of rules 15 and 16 that is broken.
@@ -93,22 +96,17 @@ pub fn find_map(nodes: &[u32], pool: &[u8]) -> MapScan
     let map = lowest_map(nodes, pool);
     if nodes.len() / 3 <= map {
         return MapScan {
-            number: rules::CPU_MAP_MISSING,
-            place: 0,
+            fault: Fault {
+                number: rules::CPU_MAP_MISSING,
+                place: 0,
+                second: NO_PROPERTY,
+            },
             map: 0,
         };
     }
     let fault = second_map(nodes, pool, map);
     if fault.number != 0 {
-        return MapScan {
-            number: fault.number,
-            place: fault.place,
-            map: 0,
-        };
+        return MapScan { fault, map: 0 };
     }
-    MapScan {
-        number: 0,
-        place: 0,
-        map,
-    }
+    MapScan { fault, map }
 }

@@ -6,6 +6,7 @@ mod path;
 mod positions;
 
 pub use find::find_map;
+use laws::Fault;
 pub use number::kind_number;
 pub use number::topology_number;
 pub use numbered::has_number;
@@ -24,9 +25,8 @@ pub struct Position {
     pub clusters: ClusterPath,
 }
 
-// The map's record, or the number and the place of the first of rules 15 and 16 that is broken.
+// The first of rules 15 and 16 that is broken, or the map's record.
 pub struct MapScan {
-    pub number: u32,
-    pub place: usize,
+    pub fault: Fault,
     pub map: usize,
 }

@@ -12,7 +12,7 @@ use Rattle.cpus.specs.facts.Rules.{CpuRule, SoundCpus, PhandleRule, Soun
 use Rattle.cpus.specs.answers.Check.{mpidrAt, phandleReadings}
 use Rattle.cpus.proofs.RegMeans.{reg-bounds, value-reg, MpidrSays, mpidr-says, PhandleSays, phandle-says}
 use Rattle.cpus.proofs.PairMeans.{mpidr-apart}
-use Rattle.cpus.proofs.FaultMeans.{Root, CountRange, root-told, count-told}
+use Rattle.cpus.proofs.FaultMeans.{Root, CountRange, name-told, address-told, size-told, count-told}
 
 -- records of which neither can be the earlier are the same
 same-record : (i j : ℕ) → (j < i → ⊥) → (i < j → ⊥) → i ≡ j
@@ -22,7 +22,12 @@ module _ {b : Board} (sized : WordSized b) (well : WellFormed b) where
   module _ (sound : SoundCpus b) where
     -- `/cpus` itself, and the number of cpu records
     pub root-given : Root b
-    root-given = held (root-told sized well) (sound 9 0)
+    root-given =
+        record {
+          name = held (name-told sized well) (sound 9 0);
+          cells = held (address-told sized well) (sound 36 0);
+          size = held (size-told sized well) (sound 37 0);
+        }
 
     pub count-range : CountRange b
     count-range = held (count-told sized well) (sound 10 0)

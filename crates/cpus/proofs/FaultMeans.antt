@@ -1,4 +1,4 @@
--- What the checks of rules 9 to 13 and 17 answer of one place: what the board then has, or the rule that it breaks. Assumes nothing.
+-- What the checks of rules 9 to 13, 17, 36 and 37 answer of one place: what the board then has, or the rule that it breaks. Assumes nothing.
 use mathlib.Core.Path.{_≡_, refl, sym, ap₂, _∙_}
 use mathlib.Core.Bool.{Bool, true, false, cond}
 use Prim.Native.Nat.{ℕ, _≤_, _<_}
@@ -12,9 +12,7 @@ use Rattle.tables.specs.answers.Range.{rangeIs}
 use Rattle.tables.specs.facts.Property.{HasValue}
 use Rattle.wellformed.specs.facts.Rules.{WellFormed}
 use Rattle.wellformed.proofs.WellFormedLaws.{wf-nodes, wf-name}
-use Rattle.cpus.specs.declared.Cells.{Cells}
 use Rattle.cpus.specs.declared.RootCells.{RootCells}
-use Rattle.cpus.specs.declared.RootCells.the-variants.{Broken}
 use Rattle.tables.specs.facts.Binding.{deviceTypeKey, cpusWord, cpuString, sizeCellsKey}
 use Rattle.cpus.specs.facts.Node.{Cpu, AddressCells, SizeCells, Reg, mpidr, Phandle}
 use Rattle.laws.specs.facts.Limits.{maxCpus}
@@ -22,7 +20,8 @@ use Rattle.cpus.specs.facts.Rules.{CpuRule, PhandleRule}
 use Rattle.cpus.specs.answers.Cell.{cellOf, isNumber}
 use Rattle.cpus.specs.declared.CpuReading.{CpuReading}
 use Rattle.cpus.specs.answers.Numbers.{unlessSeen}
-use Rattle.cpus.specs.answers.Check.{soundCells, rootNumber, rootFault, cellsOf, regCells, isCpu, cpuCount, cpuList, countFault, mpidrReadings}
+use Rattle.cpus.specs.answers.Check.{addressCells, cellsOf, nameFault, addressFault, sizeFault, isCpu}
+use Rattle.cpus.specs.answers.Check.{cpuCount, cpuList, countFault, mpidrReadings}
 use Rattle.cpus.specs.answers.Check.{phandleReadings}
 use Rattle.cpus.proofs.ScanLaws.{gatherFault, seen-decides}
 use Rattle.tables.proofs.DecideLaws.{range-test}
@@ -32,14 +31,11 @@ use Rattle.cpus.proofs.RegMeans.{countOf, CellsRead, CellsSay, cells-sa
 use Rattle.cpus.proofs.RegMeans.{PhandleSays, phandle-says, phandle-read, phandle-unique}
 use Rattle.cpus.proofs.PairMeans.{mpidr-apart}
 
--- rule 9
-pub record RootAt (b : Board) (c : Cells) : Type 0 where
+-- rules 9, 36 and 37
+pub record Root (b : Board) : Type 0 where
   pub name : nodeName b 0 ≡ cpusWord
-  pub cells : AddressCells b (countOf c)
+  pub cells : CellsRead b
   pub size : SizeCells b
-
-abbrev pub Root : Board → Type 0
-Root b = RootAt b (regCells b)
 
 -- rule 10
 abbrev pub CountRange : Board → Type 0
@@ -65,28 +61,29 @@ abbrev pub phandleFaultAt : Board → ℕ → ℕ
 phandleFaultAt b = gatherFault (isCpu (b .nodes) (b .pool)) (phandleReadings b) 17
 
 module _ {b : Board} (sized : WordSized b) (well : WellFormed b) where
-  pub root-told : Verdict (CpuRule b) 9 0 (Root b) (rootFault b)
-  unfolding soundCells
-  root-told =
+  pub name-told : Verdict (CpuRule b) 9 0 (nodeName b 0 ≡ cpusWord) (nameFault b)
+  name-told =
       go
       (rangeIs (b .pool) (nameOffset (b .nodes) 0) (nameLength (b .nodes) 0) cpusWord)
       (range-test (b .pool) (nameOffset (b .nodes) 0) (nameLength (b .nodes) 0) cpusWord (wf-name well 0 (wf-nodes well .0) .inside))
-      (isNumber (cellOf (b .props) (b .pool) 0 sizeCellsKey) 0)
-      (number-test sized well 0 sizeCellsKey 0 (omega arith))
-      (cells-say sized well)
     where
-      go :
-          (t : Bool) →
-          Decides t (nodeName b 0 ≡ cpusWord) →
-          (s : Bool) →
-          Decides s (SizeCells b) →
-          {r : RootCells} →
-          CellsSay b r →
-          Verdict (CpuRule b) 9 0 (RootAt b (cellsOf (cond t (cond s r Broken) Broken))) (rootNumber (cond t (cond s r Broken) Broken))
-      go false name s size say = Verdict.broken (CpuRule.cpusNodeName (decides-not name .0 refl))
-      go true name false size say = Verdict.broken (CpuRule.cpusNodeSizeCells (decides-not size .0 refl))
-      go true name true size (CellsSay.none f) = Verdict.broken (CpuRule.cpusNodeAddressCells f)
-      go true name true size (CellsSay.cells a) = Verdict.sound (record { name = name .0 refl; cells = a; size = size .0 refl })
+      go : (t : Bool) → Decides t (nodeName b 0 ≡ cpusWord) → Verdict (CpuRule b) 9 0 (nodeName b 0 ≡ cpusWord) (cond t 0 9)
+      go false name = Verdict.broken (CpuRule.cpusNodeName (decides-not name .0 refl))
+      go true name = Verdict.sound (name .0 refl)
+
+  pub address-told : Verdict (CpuRule b) 36 0 (CellsRead b) (addressFault (addressCells b))
+  address-told = go (cells-say sized well)
+    where
+      go : {r : RootCells} → CellsSay b r → Verdict (CpuRule b) 36 0 (AddressCells b (countOf (cellsOf r))) (addressFault r)
+      go (CellsSay.none f) = Verdict.broken (CpuRule.cpusAddressCells f)
+      go (CellsSay.cells a) = Verdict.sound a
+
+  pub size-told : Verdict (CpuRule b) 37 0 (SizeCells b) (sizeFault (cellOf (b .props) (b .pool) 0 sizeCellsKey))
+  size-told = go (isNumber (cellOf (b .props) (b .pool) 0 sizeCellsKey) 0) (number-test sized well 0 sizeCellsKey 0 (omega arith))
+    where
+      go : (t : Bool) → Decides t (SizeCells b) → Verdict (CpuRule b) 37 0 (SizeCells b) (cond t 0 37)
+      go false size = Verdict.broken (CpuRule.cpusSizeCells (decides-not size .0 refl))
+      go true size = Verdict.sound (size .0 refl)
 
   pub count-told : Verdict (CpuRule b) 10 0 (CountRange b) (countFault (cpuCount b))
   count-told = go (eqb (cpuCount b) 0) refl (ltb maxCpus (cpuCount b)) refl

@@ -7,5 +7,6 @@ pub mod FaultMeans
 pub mod CpuGives
 pub mod RuleMeans
 pub mod CpuTells
+pub mod SecondMeans
 pub mod NumberPassLaws
 pub mod ScanLaws

@@ -10,22 +10,28 @@ use lib.ListN.{length, getD, take, set, length-map, length-take}
 use lib.Seq.{length-take-le, take-suc, getD-take}
 use borrow.Author.Tests.{ne-eqb}
 use Rattle.laws.specs.declared.Fault.{Fault}
-use Rattle.laws.specs.answers.Fault.{clear, firstFault}
+use Rattle.laws.specs.answers.Fault.{clear, firstFault, withSecond}
 use Rattle.laws.specs.answers.Search.{isAmong}
 use Rattle.laws.specs.answers.Listed.{laidOver, faultOfMember, membersPassed}
-use Rattle.laws.proofs.FaultLaws.{told-at, clear-more, at-fault, at-end}
+use Rattle.laws.proofs.FaultLaws.{clear-more, at-fault, at-end}
+use Rattle.laws.proofs.SecondPlaceLaws.{second-at}
 use Rattle.laws.proofs.OverLaws.{over-none, over-length, over-front, over-push}
 use Rattle.cpus.specs.declared.CpuReading.{CpuReading}
-use Rattle.cpus.specs.answers.Numbers.{unlessSeen, listedFault, firstIndex, firstRecord, numbersOver}
+use Rattle.cpus.specs.answers.Numbers.{cpuReading, unlessSeen, listedFault, firstIndex, firstRecord, numbersOver}
 
--- a reading keeps its number where that is refused
-unless-value : (rule : ℕ) (seen : Bool) (q : CpuReading) → unlessSeen rule seen q .value ≡ q .value
-unless-value rule seen q = go (eqb (q .number) 0) seen
+-- a reading keeps its value and its second place where it is refused
+pub unless-same :
+    (rule : ℕ) (seen : Bool) (q : CpuReading) →
+    (unlessSeen rule seen q .value ≡ q .value) × (unlessSeen rule seen q .second ≡ q .second)
+unless-same rule seen q = go (eqb (q .number) 0) seen
   where
-    go : (a b : Bool) → cond a (cond b (record { number = rule; value = q .value }) q) q .value ≡ q .value
-    go true true = refl
-    go true false = refl
-    go false b = refl
+    again : CpuReading
+    again = cpuReading rule (q .second) (q .value)
+
+    go : (a b : Bool) → (cond a (cond b again q) q .value ≡ q .value) × (cond a (cond b again q) q .second ≡ q .second)
+    go true true = (refl, refl)
+    go true false = (refl, refl)
+    go false b = (refl, refl)
 
 module _ (r : ℕ → CpuReading) (rule : ℕ) (records before : List ℕ) where
   -- the records that there is room for
@@ -67,9 +73,12 @@ module _ (r : ℕ → CpuReading) (rule : ℕ) (records before : List ℕ) where
       fault ≡ firstIndex r rule cut →
       membersPassed cut fault ≡ k →
       Pass k values →
-      Told (faultOfMember cut fault) values
+      Told (withSecond (λ i. r i .second) (faultOfMember cut fault)) values
   unfolding firstRecord numbersOver
-  told-index e p h = (ap (faultOfMember cut) e, h .held ∙ ap (λ (n : ℕ). laidOver (numbers n) before) (sym p ∙ ap (membersPassed cut) e))
+  told-index e p h = (
+    ap (λ (f : Fault). withSecond (λ i. r i .second) (faultOfMember cut f)) e,
+    h .held ∙ ap (λ (n : ℕ). laidOver (numbers n) before) (sym p ∙ ap (membersPassed cut) e),
+  )
 
   -- the record at index k, and the reading x that is made of the numbers gathered
   module _ (k : ℕ) {values : List ℕ} {x : CpuReading}
@@ -94,7 +103,7 @@ module _ (r : ℕ → CpuReading) (rule : ℕ) (records before : List ℕ) where
     pass-next z =
         let value : x .value ≡ r (getD cut k 0) .value =
         ap (λ (q : CpuReading). q .value) made
-        ∙ unless-value rule (isAmong (take k values) (r (getD records k 0) .value)) (r (getD records k 0))
+        ∙ unless-same rule (isAmong (take k values) (r (getD records k 0) .value)) (r (getD records k 0)) .0
         ∙ ap (λ (i : ℕ). r i .value) (sym at) in
         record {
           within = omega (arith, fits);
@@ -105,9 +114,12 @@ module _ (r : ℕ → CpuReading) (rule : ℕ) (records before : List ℕ) where
               ∙ ap (λ (l : List ℕ). laidOver l before) (numbers-more k (fits .0));
         }
 
-    pub pass-told : (x .number ≡ 0 → ⊥) → Told (record { number = x .number; place = getD records k 0 }) values
+    pub pass-told : (x .number ≡ 0 → ⊥) → Told (record { number = x .number; place = getD records k 0; second = x .second }) values
     pass-told ne =
-        rw (← at, ← told-at (x .number) (getD cut k 0) ne)
+        let second : x .second ≡ r (getD records k 0) .second =
+        ap (λ (q : CpuReading). q .second) made
+        ∙ unless-same rule (isAmong (take k values) (r (getD records k 0) .value)) (r (getD records k 0)) .1 in
+        rw (second, ← at, ← second-at (λ i. r i .second) (x .number) (getD cut k 0) ne)
         (told-index (at-fault (listedFault r rule cut) k (length cut) (fits .0) (h .none) pass-fault ne) (rw (ne-eqb (x .number) 0 ne)) h)
 
   pub pass-end : (k : ℕ) {values : List ℕ} → Pass k values → min (length before) (length records) ≤ k → Told clear values

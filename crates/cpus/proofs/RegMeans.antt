@@ -7,6 +7,7 @@ use Prim.Native.Nat.{ℕ, _/_, _%_, _^_, _<_}
 use native.Mathlib.Omega.{arith}
 use lib.Dec.{eqb}
 use borrow.Author.Tests.{eqb-true, eqb-false}
+use Rattle.laws.specs.facts.Limits.{noProperty}
 use Rattle.laws.proofs.SearchLaws.{true-false}
 use Rattle.laws.proofs.DecideLaws.{Decides, decides-not}
 use Rattle.affinity.specs.facts.Level.{Affine}
@@ -14,6 +15,8 @@ use Rattle.affinity.specs.answers.Level.{isAffine}
 use Rattle.affinity.proofs.AffineLaws.{test-affine}
 use Rattle.tables.specs.facts.Board.{Board, WordSized}
 use Rattle.tables.specs.facts.Property.{HasValue, cellBytes}
+use Rattle.tables.specs.declared.Lookup.{Lookup}
+use Rattle.tables.specs.answers.Lookup.{lookup, recordOf}
 use Rattle.wellformed.specs.facts.Rules.{WellFormed}
 use Rattle.tables.proofs.CellLaws.{cell-bytes-apart}
 use Rattle.cpus.specs.declared.Cells.{Cells}
@@ -164,19 +167,23 @@ module _ {b : Board} (sized : WordSized b) (well : WellFormed b) where
 
 -- what a cpu record's MPIDR is read as: its `reg`, or the rule that is broken
 pub data MpidrSays (b : Board) (i : ℕ) : CpuReading → Type 0 where
-  untyped : (HasValue b i deviceTypeKey cpuString → ⊥) → MpidrSays b i (cpuReading 11 0)
-  unread : HasValue b i deviceTypeKey cpuString → ((u l : ℕ) → Reg b i u l → ⊥) → MpidrSays b i (cpuReading 12 0)
-  reg : {u l m : ℕ} → HasValue b i deviceTypeKey cpuString → Reg b i u l → m ≡ mpidr u l → MpidrSays b i (cpuReading 0 m)
+  untyped : {s : ℕ} → (HasValue b i deviceTypeKey cpuString → ⊥) → MpidrSays b i (cpuReading 11 s 0)
+  unread : {s : ℕ} → HasValue b i deviceTypeKey cpuString → ((u l : ℕ) → Reg b i u l → ⊥) → MpidrSays b i (cpuReading 12 s 0)
+  reg : {s u l m : ℕ} → HasValue b i deviceTypeKey cpuString → Reg b i u l → m ≡ mpidr u l → MpidrSays b i (cpuReading 0 s m)
 
 -- and its `phandle`
 pub data PhandleSays (b : Board) (i : ℕ) : CpuReading → Type 0 where
-  phandle : {h : ℕ} → Phandle b i h → PhandleSays b i (cpuReading 0 h)
-  none : ((h : ℕ) → Phandle b i h → ⊥) → PhandleSays b i (cpuReading 17 0)
+  phandle : {s h : ℕ} → Phandle b i h → PhandleSays b i (cpuReading 0 s h)
+  none : {s : ℕ} → ((h : ℕ) → Phandle b i h → ⊥) → PhandleSays b i (cpuReading 17 s 0)
 
 pub phandle-unique : {b : Board} (well : WellFormed b) {i g h : ℕ} → Phandle b i g → Phandle b i h → g ≡ h
 phandle-unique well {i} {g} {h} p q = cell-bytes-apart g h (p .word) (q .word) (value-unique well (p .value) (q .value))
 
 module _ {b : Board} (sized : WordSized b) (well : WellFormed b) (i : ℕ) where
+  -- where a property stands
+  abbrev at : List ℕ → Lookup
+  at key = lookup (b .props) (b .pool) i key
+
   module _ (a : CellsRead b) where
     pub mpidr-says : MpidrSays b i (mpidrReadings b i)
     unfolding readingFrom readingOf cellOf
@@ -189,7 +196,7 @@ module _ {b : Board} (sized : WordSized b) (well : WellFormed b) (i : ℕ) where
             n < limit (regCells b) →
             (t : Bool) →
             isAffine n ≡ t →
-            MpidrSays b i (numberOr 12 (cond t (Number n) Invalid))
+            MpidrSays b i (numberOr 12 (at regKey) noProperty (cond t (Number n) Invalid))
         pick kind h lt true e = let t = number-reg well (regCells b) a h lt e in MpidrSays.reg kind (t .2) (t .3)
         pick kind h lt false e =
             MpidrSays.unread kind
@@ -200,7 +207,7 @@ module _ {b : Board} (sized : WordSized b) (well : WellFormed b) (i : ℕ) where
             Decides s (HasValue b i deviceTypeKey cpuString) →
             {v : Value} →
             ValueSays b (regCells b) i regKey v →
-            MpidrSays b i (cond s (numberOr 12 (affineOnly v)) (numberOr 11 Invalid))
+            MpidrSays b i (cond s (numberOr 12 (at regKey) noProperty (affineOnly v)) (cpuReading 11 (recordOf (at deviceTypeKey)) 0))
         go false kind v = MpidrSays.untyped (decides-not kind .0 refl)
         go true kind (ValueSays.number {n = n} h lt) = pick (kind .0 refl) h lt (isAffine n) refl
         go true kind (ValueSays.none f) =
@@ -230,13 +237,13 @@ module _ {b : Board} (sized : WordSized b) (well : WellFormed b) (i : ℕ) where
           eqb w 0 ≡ t →
           (s : Bool) →
           eqb w 0xFFFFFFFF ≡ s →
-          PhandleSays b i (numberOr 17 (cond t Invalid (cond s Invalid (Number w))))
+          PhandleSays b i (numberOr 17 (at phandleKey) (recordOf (at phandleKey)) (cond t Invalid (cond s Invalid (Number w))))
       pick {w} v lt true e s f = PhandleSays.none (λ h p. p .not-zero (sym (same v lt p) ∙ eqb-true w 0 e))
       pick {w} v lt false e true f = PhandleSays.none (λ h p. p .not-ones (sym (same v lt p) ∙ eqb-true w 0xFFFFFFFF f))
       pick {w} v lt false e false f =
           PhandleSays.phandle (record { value = v; word = lt; not-zero = eqb-false w 0 e; not-ones = eqb-false w 0xFFFFFFFF f })
 
-      go : {x : Value} → ValueSays b One i phandleKey x → PhandleSays b i (numberOr 17 (phandleIn x))
+      go : {x : Value} → ValueSays b One i phandleKey x → PhandleSays b i (numberOr 17 (at phandleKey) (recordOf (at phandleKey)) (phandleIn x))
       go (ValueSays.number {n = w} v lt) = pick v lt (eqb w 0) refl (eqb w 0xFFFFFFFF) refl
       go (ValueSays.none n) = PhandleSays.none (λ h p. n (cellBytes h) (p .value) refl)
 

@@ -7,7 +7,7 @@ use lib.Dec.{eqb}
 use lib.ListN.{length, getD}
 use lib.Seq.{take-length}
 use borrow.Author.Tests.{eq-eqb, eqb-true}
-use Rattle.laws.specs.answers.Fault.{firstFault}
+use Rattle.laws.specs.answers.Fault.{firstFault, withSecond}
 use Rattle.laws.specs.answers.Search.{anyBelow, countBelow, listBelow, isAmong}
 use Rattle.laws.specs.answers.Listed.{laidOver, faultOfMember}
 use Rattle.laws.proofs.DecideLaws.{Decides, then-decides, any-decides}
@@ -45,14 +45,15 @@ module _ (p : ℕ → Bool) (r : ℕ → CpuReading) (rule n : ℕ) where
       ap (λ (s : Bool). cond (p i) (unlessSeen rule s (r i) .number) 0)
       (gathered-seen p (λ j. r j .value) (λ j. eqb (r j .value) (r i .value)) (r i .value) i (λ j _ _. refl))
 
-  pub first-gathered : firstRecord r rule (listBelow p n) ≡ firstFault (gatherFault p r rule) n
+  pub first-gathered : firstRecord r rule (listBelow p n) ≡ withSecond (λ i. r i .second) (firstFault (gatherFault p r rule) n)
   unfolding firstRecord
   first-gathered =
-      ap (faultOfMember (listBelow p n))
+      ap (withSecond (λ i. r i .second))
+      (ap (faultOfMember (listBelow p n))
       (first-same (listedFault r rule (listBelow p n)) (λ k. ownFault k (getD (listBelow p n) k 0)) (length (listBelow p n))
       (λ k lt _. listed-own k lt))
       ∙ first-listed p ownFault n
-      ∙ first-same (λ i. cond (p i) (ownFault (countBelow p i) i) 0) (gatherFault p r rule) n (λ i _ _. own-gathered i)
+      ∙ first-same (λ i. cond (p i) (ownFault (countBelow p i) i) 0) (gatherFault p r rule) n (λ i _ _. own-gathered i))
 
 -- where the gathering tells nothing, the buffer holds the numbers of all
 pub numbers-clear :
@@ -65,10 +66,10 @@ numbers-clear r rule records before z = rw (eq-eqb (firstIndex r rule records .n
 -- an index of properties that tells what a lookup finds gives the same readings
 pub same-reading :
     (w : CpuNumbers) (props pool index : List ℕ) →
-    ((i : ℕ) (key : Key) → indexedAt index i key ≡ lookup props pool i (keyName key)) →
+    ((i : ℕ) (key : Key) → indexedAt props index i key ≡ lookup props pool i (keyName key)) →
     readingAt w props pool index ≡ readingOf w props pool
 unfolding readingOf
-same-reading w props pool index same = fun-ext (λ i. ap (readingFrom w props pool) (fun-ext (same i)))
+same-reading w props pool index same = fun-ext (λ i. ap (readingFrom w pool) (fun-ext (same i)))
 
 -- the places that pass p, of which none before i breaks a rule
 module _ (p : ℕ → Bool) (r : ℕ → CpuReading) (rule : ℕ) where

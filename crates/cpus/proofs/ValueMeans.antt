@@ -10,7 +10,8 @@ use Rattle.laws.proofs.SearchLaws.{true-false}
 use Rattle.laws.proofs.DecideLaws.{Decides, decides-as, eq-decides, le-decides, both-decides}
 use Rattle.tables.specs.facts.Board.{Board, WordSized, Inside, range, propValue, valueOffset, valueLength}
 use Rattle.tables.specs.facts.Property.{Property, HasValue, cellBytes}
-use Rattle.tables.specs.answers.Lookup.{lookup}
+use Rattle.tables.specs.declared.Found.{Found}
+use Rattle.tables.specs.answers.Lookup.{foundAt, lookup}
 use Rattle.wellformed.specs.facts.Rules.{WellFormed}
 use Rattle.tables.proofs.LookupLaws.{lookup-cases}
 use Rattle.wellformed.proofs.WellFormedLaws.{wf-unique, wf-value-unique}
@@ -28,9 +29,8 @@ range-length pool offset len inside = simp (length-take, length-drop) (omega ari
 
 -- the test of a value's length
 pub sized-test :
-    (props pool : List ℕ) (len k : ℕ) →
-    Decides (valueSized props pool len k) ((valueLength props k ≡ len) × (valueOffset props k + len ≤ length pool))
-sized-test props pool len k = both-decides (eq-decides (valueLength props k) len) (le-decides (valueOffset props k + len) (length pool))
+    (pool : List ℕ) (len : ℕ) (found : Found) → Decides (valueSized pool len found) ((found .len ≡ len) × (found .offset + len ≤ length pool))
+sized-test pool len found = both-decides (eq-decides (found .len) len) (le-decides (found .offset + len) (length pool))
 
 module _ {b : Board} (well : WellFormed b) {i : ℕ} {key : List ℕ} where
   -- a record has one value of a property: that of its only property record of that name
@@ -46,12 +46,16 @@ module _ {b : Board} (well : WellFormed b) {i : ℕ} {key : List ℕ} where
 
   -- a value of a length is read where it lies
   value-sized :
-      {k : ℕ} {v : List ℕ} (len : ℕ) → Property b i key k → HasValue b i key v → length v ≡ len → valueSized (b .props) (b .pool) len k ≡ true
+      {k : ℕ} {v : List ℕ} (len : ℕ) →
+      Property b i key k →
+      HasValue b i key v →
+      length v ≡ len →
+      valueSized (b .pool) len (foundAt (b .props) k) ≡ true
   value-sized {k} {v} len p h e =
       let t = value-of p h in
       let inside = t .0 in
       let same = sym (range-length (b .pool) (valueOffset (b .props) k) (valueLength (b .props) k) inside) ∙ ap length (t .1) ∙ e in
-      sized-test (b .props) (b .pool) len k .1 (same, omega arith)
+      sized-test (b .pool) len (foundAt (b .props) k) .1 (same, omega arith)
 
 -- what a property's value is as a number of so many cells: that number, or not
 pub data ValueSays (b : Board) (c : Cells) (i : ℕ) (key : List ℕ) : Value → Type 0 where
@@ -59,10 +63,10 @@ pub data ValueSays (b : Board) (c : Cells) (i : ℕ) (key : List ℕ) : Value �
   none : ((v : List ℕ) → HasValue b i key v → length v ≡ sizeOf c → ⊥) → ValueSays b c i key Invalid
 
 module _ {b : Board} (sized : WordSized b) (well : WellFormed b) (i : ℕ) (key : List ℕ) where
-  pub value-says : (c : Cells) → ValueSays b c i key (valueIn (b .props) (b .pool) c (lookup (b .props) (b .pool) i key))
+  pub value-says : (c : Cells) → ValueSays b c i key (valueIn (b .pool) c (lookup (b .props) (b .pool) i key))
   value-says c =
       ⊎-elim
-      (λ t. rw (t .1) (at (t .0) (t .2 .property) (valueSized (b .props) (b .pool) (sizeOf c) (t .0)) refl))
+      (λ t. rw (t .1) (at (t .0) (t .2 .property) (valueSized (b .pool) (sizeOf c) (foundAt (b .props) (t .0))) refl))
       (λ t. rw (t .0) (ValueSays.none (λ v h _. t .1 (h .record-number) (h .property))))
       (lookup-cases b i key)
     where
@@ -70,10 +74,10 @@ module _ {b : Board} (sized : WordSized b) (well : WellFormed b) (i : ℕ) (key 
           (k : ℕ) →
           Property b i key k →
           (t : Bool) →
-          valueSized (b .props) (b .pool) (sizeOf c) k ≡ t →
+          valueSized (b .pool) (sizeOf c) (foundAt (b .props) k) ≡ t →
           ValueSays b c i key (cond t (Number (cellsAt (b .pool) c (valueOffset (b .props) k))) Invalid)
       at k p true e =
-          let s = sized-test (b .props) (b .pool) (sizeOf c) k .0 e in
+          let s = sized-test (b .pool) (sizeOf c) (foundAt (b .props) k) .0 e in
           ValueSays.number {n = cellsAt (b .pool) c (valueOffset (b .props) k)}
           (record {
             record-number = k;

@@ -1,3 +1,3 @@
--- What the contracts of `cpus` cite, and the facts about cpu nodes that rules 9 to 13 and 17 are stated in.
+-- What the contracts of `cpus` cite, and the facts about cpu nodes that rules 9 to 13, 17, 36 and 37 are stated in.
 pub mod facts
 pub mod answers

@@ -1,16 +1,17 @@
-// Cpu nodes: the cells of `/cpus`, the cpu records with their MPIDRs and phandles, and rules 9 to 13 and 17.
+// Cpu nodes: the cells of `/cpus`, the cpu records with their MPIDRs and phandles, and rules 9 to 13, 17, 36 and 37.
 mod node;
 mod numbers;
 mod property;
 mod read;
 mod root;
 
+use laws::Fault;
 pub use node::is_cpu;
 pub use numbers::read_numbers;
 pub use property::cell_in;
 pub use root::count_fault;
 pub use root::list_cpus;
-pub use root::read_cells;
+pub use root::read_root;
 
 // A property's value as a number, or not.
 pub enum Value {
@@ -24,10 +25,16 @@ pub enum Cells {
     Two,
 }
 
-// The cells of the board's `reg`s, or Broken where rule 9 is broken.
-pub enum RootCells {
+// What `#address-cells` gives a board: the cells of its `reg`s, or Broken where rule 36 is broken.
+enum RootCells {
     Are(Cells),
     Broken,
+}
+
+// What is read of record 0: the first of rules 9, 36 and 37 that is broken, and the cells of the board's `reg`s.
+pub struct RootReading {
+    pub fault: Fault,
+    pub cells: Cells,
 }
 
 // The number of each cpu record to gather: its MPIDR, from a `reg` of so many cells, or its phandle.
@@ -36,8 +43,9 @@ pub enum CpuNumbers {
     Phandles,
 }
 
-// What a cpu record breaks, 0 where nothing, and its number.
+// What a cpu record breaks, 0 where nothing, the second place of what is told of it, and its number.
 pub struct CpuReading {
     pub number: u32,
+    pub second: usize,
     pub value: u64,
 }

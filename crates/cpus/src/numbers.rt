@@ -2,6 +2,7 @@
 use crate::CpuNumbers;
 use crate::CpuReading;
 use crate::read::read_record;
+use laws::CLEAR;
 use laws::Fault;
 use laws::is_among;
 use laws::rules;
@@ -21,7 +22,7 @@ fn repeat_rule(wanted: CpuNumbers) -> u32
     }
 }
 
-// What cpu record i breaks, 0 where nothing, and its number, given those of the earlier cpu records.
+// What cpu record i breaks, 0 where nothing, its second place and its number, given those of the earlier cpu records.
 fn next_reading(
     wanted: CpuNumbers,
     props: &[u32],
@@ -41,6 +42,7 @@ fn next_reading(
     if is_among(earlier, first.value) {
         return CpuReading {
             number: repeat_rule(wanted),
+            second: first.second,
             value: first.value,
         };
     }
@@ -73,13 +75,11 @@ pub fn read_numbers(
             return Fault {
                 number: reading.number,
                 place: i,
+                second: reading.second,
             };
         }
         values[k] = reading.value;
         k += 1;
     }
-    Fault {
-        number: 0,
-        place: 0,
-    }
+    CLEAR
 }

@@ -1,15 +1,14 @@
 // A property's value as a number of one cell or of two.
 use crate::Cells;
 use crate::Value;
+use tables::Found;
 use tables::Lookup;
 use tables::cell_at;
-use tables::find_property;
 use tables::is_inside;
-use tables::prop_word;
 ghost use mathlib.Core.Path.{_≡_};
 ghost use Prim.Native.Nat.{_+_, _≤_};
 ghost use lib.ListN.{length};
-ghost use Rattle.cpus.specs.answers.Cell.{sizeOf, valueSized, cellsAt, valueIn, cellIn, cellOf, isNumber};
+ghost use Rattle.cpus.specs.answers.Cell.{sizeOf, valueSized, cellsAt, valueIn, cellIn, isNumber};
 
 // The bytes of one cell, or of two.
 fn size_of(cells: Cells) -> usize
@@ -21,15 +20,15 @@ fn size_of(cells: Cells) -> usize
     }
 }
 
-// Whether property k's value lies inside the pool and has so many cells.
-fn has_cells(props: &[u32], pool: &[u8], cells: Cells, k: usize) -> bool
-    ensures { λ r. ⌜ r ≡ valueSized (now (props .entry)) (now (pool .entry)) (sizeOf cells) k ⌝ }
+// Whether the value of a property lies inside the pool and has so many cells.
+fn has_cells(pool: &[u8], cells: Cells, property: Found) -> bool
+    ensures { λ r. ⌜ r ≡ valueSized (now (pool .entry)) (sizeOf cells) property ⌝ }
 {
     let size = size_of(cells);
-    if prop_word(props, k, 4) != size {
+    if property.len != size {
         return false;
     }
-    is_inside(pool.len(), prop_word(props, k, 3), size)
+    is_inside(pool.len(), property.offset, size)
 }
 
 // The number of the cells from `at` on: the only cell, or the upper and the lower.
@@ -45,30 +44,23 @@ fn cells_at(pool: &[u8], cells: Cells, at: usize) -> u64
 }
 
 // The number that is the value of a property, if it was found and has so many cells.
-pub fn value_in(props: &[u32], pool: &[u8], cells: Cells, found: Lookup) -> Value
-    ensures { λ r. ⌜ r ≡ valueIn (now (props .entry)) (now (pool .entry)) cells found ⌝ }
+pub fn value_in(pool: &[u8], cells: Cells, found: Lookup) -> Value
+    ensures { λ r. ⌜ r ≡ valueIn (now (pool .entry)) cells found ⌝ }
 {
-    let Lookup::At(k) = found else {
+    let Lookup::At(property) = found else {
         return Value::Invalid;
     };
-    if has_cells(props, pool, cells, k) {
-        return Value::Number(cells_at(pool, cells, prop_word(props, k, 3)));
+    if has_cells(pool, cells, property) {
+        return Value::Number(cells_at(pool, cells, property.offset));
     }
     Value::Invalid
 }
 
 // The cell that is the value of a property, if it was found and has four bytes.
-pub fn cell_in(props: &[u32], pool: &[u8], found: Lookup) -> Value
-    ensures { λ r. ⌜ r ≡ cellIn (now (props .entry)) (now (pool .entry)) found ⌝ }
+pub fn cell_in(pool: &[u8], found: Lookup) -> Value
+    ensures { λ r. ⌜ r ≡ cellIn (now (pool .entry)) found ⌝ }
 {
-    value_in(props, pool, Cells::One, found)
-}
-
-// The cell that is the value of a record's property `key`.
-pub fn cell_of(props: &[u32], pool: &[u8], node: usize, key: &[u8]) -> Value
-    ensures { λ r. ⌜ r ≡ cellOf (now (props .entry)) (now (pool .entry)) node (now (key .entry)) ⌝ }
-{
-    cell_in(props, pool, find_property(props, pool, node, key))
+    value_in(pool, Cells::One, found)
 }
 
 // Whether a value is a given number.

@@ -6,11 +6,14 @@ use crate::property::cell_in;
 use crate::property::is_number;
 use crate::property::value_in;
 use affinity::is_affine;
+use laws::limits::NO_PROPERTY;
 use laws::rules;
 use property_index::INDEX_WORDS;
 use property_index::Key;
 use property_index::find_indexed;
+use tables::Lookup;
 use tables::binding;
+use tables::record_of;
 ghost use mathlib.Core.Path.{_≡_};
 ghost use Rattle.cpus.specs.answers.Cell.{affineOnly, phandleIn};
 ghost use Rattle.cpus.specs.answers.Numbers.{numberOr, readingAt};
@@ -44,23 +47,25 @@ fn phandle_in(value: Value) -> Value
     Value::Number(h)
 }
 
-// A value's number, or the rule that is broken where it is not there.
-fn number_or(rule: u32, value: Value) -> CpuReading
-    ensures { λ r. ⌜ r ≡ numberOr rule value ⌝ }
+// A value's number, and the second place of its repeat; or the rule that is broken where it is not there, told of a property.
+fn number_or(rule: u32, found: Lookup, repeated: usize, value: Value) -> CpuReading
+    ensures { λ r. ⌜ r ≡ numberOr rule found repeated value ⌝ }
 {
     match value {
         Value::Number(n) => CpuReading {
             number: 0,
+            second: repeated,
             value: n,
         },
         Value::Invalid => CpuReading {
             number: rule,
+            second: record_of(found),
             value: 0,
         },
     }
 }
 
-// What a cpu record alone breaks, 0 where nothing, and its number.
+// What a cpu record alone breaks, 0 where nothing, the second place of what is told of it, and its number.
 pub fn read_record(
     wanted: CpuNumbers,
     props: &[u32],
@@ -71,13 +76,19 @@ pub fn read_record(
     ensures { λ r. ⌜ r ≡ readingAt wanted (now (props .entry)) (now (pool .entry)) (now (index .entry)) i ⌝ }
 {
     let CpuNumbers::Mpidrs(cells) = wanted else {
-        let phandle = cell_in(props, pool, find_indexed(index, i, Key::Phandle));
-        return number_or(rules::CPU_PHANDLE, phandle_in(phandle));
+        let found = find_indexed(props, index, i, Key::Phandle);
+        let phandle = phandle_in(cell_in(pool, found));
+        return number_or(rules::CPU_PHANDLE, found, record_of(found), phandle);
     };
-    let kind = cell_in(props, pool, find_indexed(index, i, Key::DeviceType));
-    if is_number(kind, binding::CPU_STRING) {
-        let reg = value_in(props, pool, cells, find_indexed(index, i, Key::Reg));
-        return number_or(rules::CPU_REG, affine_only(reg));
+    let kind = find_indexed(props, index, i, Key::DeviceType);
+    if is_number(cell_in(pool, kind), binding::CPU_STRING) {
+        let reg = find_indexed(props, index, i, Key::Reg);
+        let mpidr = affine_only(value_in(pool, cells, reg));
+        return number_or(rules::CPU_REG, reg, NO_PROPERTY, mpidr);
     }
-    number_or(rules::CPU_DEVICE_TYPE, Value::Invalid)
+    CpuReading {
+        number: rules::CPU_DEVICE_TYPE,
+        second: record_of(kind),
+        value: 0,
+    }
 }

@@ -1,23 +1,30 @@
-// Rules 9 and 10: the root record and the number of cpu records.
+// Rules 9, 10, 36 and 37: the root record and the number of cpu records.
 use crate::Cells;
 use crate::RootCells;
+use crate::RootReading;
 use crate::Value;
 use crate::node::is_cpu;
-use crate::property::cell_of;
+use crate::property::cell_in;
 use crate::property::is_number;
+use laws::CLEAR;
+use laws::Fault;
 use laws::at_most;
 use laws::limits::MAX_CPUS;
 use laws::limits::MAX_NODES;
 use laws::rules;
+use tables::Lookup;
+use tables::find_property;
 use tables::name_is;
+use tables::record_of;
 ghost use mathlib.Core.Path.{_≡_};
 ghost use Prim.Native.Nat.{min};
 ghost use lib.ListN.{set};
 ghost use Rattle.laws.specs.answers.Search.{countBelow, listBelow};
 ghost use Rattle.laws.specs.answers.Listed.{laidOver};
 ghost use Rattle.tables.specs.facts.Board.{board, nodeCount};
+ghost use Rattle.tables.specs.answers.Lookup.{recordOf};
 ghost use Rattle.laws.specs.facts.Limits.{maxNodes};
-ghost use Rattle.cpus.specs.answers.Check.{isCpu, cellsFor, soundCells, countFault};
+ghost use Rattle.cpus.specs.answers.Check.{isCpu, cellsFor, cellsOf, rootReading, countFault};
 
 // What `#address-cells` gives a board of a width: one cell, or on width 64 two.
 fn cells_for(width: u32, value: Value) -> RootCells
@@ -38,17 +45,51 @@ fn cells_for(width: u32, value: Value) -> RootCells
     RootCells::Are(Cells::Two)
 }
 
-// The cells of the board's `reg`s: rule 9.
-pub fn read_cells(width: u32, nodes: &[u32], props: &[u32], pool: &[u8]) -> RootCells
-    ensures { λ r. ⌜ r ≡ soundCells (board width (now (nodes .entry)) (now (props .entry)) (now (pool .entry))) ⌝ }
+// The cells of a `reg`; one where `#address-cells` gives none.
+fn cells_of(allowed: RootCells) -> Cells
+    ensures { λ r. ⌜ r ≡ cellsOf allowed ⌝ }
 {
+    match allowed {
+        RootCells::Are(cells) => cells,
+        RootCells::Broken => Cells::One,
+    }
+}
+
+// What is told of record 0, of one of its properties.
+fn told_of(number: u32, property: Lookup) -> Fault
+    ensures { λ r. ⌜ r ≡ record { number = number; place = 0; second = recordOf property } ⌝ }
+{
+    Fault {
+        number,
+        place: 0,
+        second: record_of(property),
+    }
+}
+
+// Reads record 0: rules 9, 36 and 37, and the cells of the board's `reg`s.
+pub fn read_root(width: u32, nodes: &[u32], props: &[u32], pool: &[u8]) -> RootReading
+    ensures { λ r. ⌜ r ≡ rootReading (board width (now (nodes .entry)) (now (props .entry)) (now (pool .entry))) ⌝ }
+{
+    let address = find_property(props, pool, 0, b"#address-cells");
+    let allowed = cells_for(width, cell_in(pool, address));
+    let cells = cells_of(allowed);
     if !name_is(nodes, pool, 0, b"cpus") {
-        return RootCells::Broken;
+        let fault = told_of(rules::CPUS_NODE, Lookup::Missing);
+        return RootReading { fault, cells };
     }
-    if is_number(cell_of(props, pool, 0, b"#size-cells"), 0) {
-        return cells_for(width, cell_of(props, pool, 0, b"#address-cells"));
+    let RootCells::Are(_) = allowed else {
+        let fault = told_of(rules::CPUS_ADDRESS_CELLS, address);
+        return RootReading { fault, cells };
+    };
+    let size = find_property(props, pool, 0, b"#size-cells");
+    if !is_number(cell_in(pool, size), 0) {
+        let fault = told_of(rules::CPUS_SIZE_CELLS, size);
+        return RootReading { fault, cells };
     }
-    RootCells::Broken
+    RootReading {
+        fault: CLEAR,
+        cells,
+    }
 }
 
 // Writes a record's number at index k, if there is room.

@@ -1,4 +1,4 @@
--- No answer's place is above 4,096, and no count above 256. Assumes nothing.
+-- No answer's place is above 4,096, no second place is more than a word, and no count above 256. Assumes nothing.
 use mathlib.Core.Path.{_≡_, refl}
 use mathlib.Core.Bool.{Bool, true, false}
 use Prim.Native.Nat.{ℕ, _≤_}
@@ -11,7 +11,7 @@ use Rattle.laws.proofs.FaultLaws.{place-le}
 use Rattle.laws.proofs.OrElseLaws.{or-clear}
 use Rattle.laws.proofs.RuleStageLaws.{told-place, else-place}
 use Rattle.tables.specs.facts.Board.{Board, nodeCount}
-use Rattle.laws.specs.facts.Limits.{maxProperties}
+use Rattle.laws.specs.facts.Limits.{maxProperties, noProperty}
 use Rattle.wellformed.specs.answers.Check.{tableFault}
 use Rattle.wellformed.proofs.RuleLaws.{table-place, table-sound}
 use Rattle.wellformed.proofs.WellFormedLaws.{wf-nodes}
@@ -23,6 +23,7 @@ use Rattle.leaves.proofs.TreeTells.{leaves-place}
 use Rattle.demands.specs.answers.Survey.{surveyFault}
 use Rattle.demands.specs.answers.Answer.{boardFault, roomFault, answerOf}
 use Rattle.demands.proofs.LayerLaws.{board-stages, few-cpus}
+use Rattle.demands.proofs.SecondBoard.{second-word}
 
 module _ (b : Board) (room : ℕ) where
   abbrev count : ℕ
@@ -59,6 +60,14 @@ module _ (b : Board) (room : ℕ) where
       go : (t : Bool) → eqb (boardFault b room .number) 0 ≡ t → answerOf b room .place ≤ maxProperties
       go true e = rw e (omega arith)
       go false e = rw e fault-place
+
+  pub answer-second : answerOf b room .second ≤ noProperty
+  unfolding answerOf
+  answer-second = go (eqb (boardFault b room .number) 0) refl
+    where
+      go : (t : Bool) → eqb (boardFault b room .number) 0 ≡ t → answerOf b room .second ≤ noProperty
+      go true e = rw e (omega arith)
+      go false e = rw e (second-word b room)
 
   pub answer-count : answerOf b room .count ≤ 256
   unfolding answerOf boardFault surveyFault

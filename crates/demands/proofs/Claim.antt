@@ -8,6 +8,7 @@ use native.Mathlib.Omega.{arith}
 use lib.ListN.{length, take, drop}
 use lib.Dec.{eqb}
 use borrow.Author.Tests.{eq-eqb, ne-eqb, eqb-true, eqb-false}
+use Rattle.laws.specs.facts.Limits.{noProperty}
 use Rattle.laws.proofs.SearchLaws.{lt-or-le}
 use Rattle.laws.proofs.RuleStageLaws.{tells-first, tells-none}
 use Rattle.layout.specs.facts.Row.{rowSize}
@@ -17,6 +18,7 @@ use Rattle.wellformed.specs.facts.Rules.{WellFormed}
 use Rattle.cpus.specs.facts.Rules.{SoundCpus, SoundPhandles}
 use Rattle.cpus.specs.answers.Check.{cpuCount, cpuList, mpidrList}
 use Rattle.cpus.proofs.CpuMeans.{cpu-listing, cpu-count}
+use Rattle.cpus.proofs.RuleMeans.{nine}
 use Rattle.cpumap.specs.facts.Map.{Map}
 use Rattle.cpumap.specs.facts.Rules.{MapRule}
 use Rattle.topology.specs.facts.Rules.{SoundTopology}
@@ -33,9 +35,11 @@ use Rattle.rows.proofs.WrittenLaws.{written-front, written-rest, written-length
 use Rattle.demands.specs.declared.BoardAnswer.{BoardAnswer}
 use Rattle.demands.specs.facts.Rules.{Breaks, Told, MapBroken, Room}
 use Rattle.demands.specs.answers.Answer.{boardFault, answerOf, rowsAfter}
-use Rattle.demands.specs.facts.Reading.{slotAt, Refused, Accepted, Demands}
+use Rattle.demands.specs.facts.Reading.{slotAt, Refused, Accepted, Unchanged, Demands}
 use Rattle.demands.proofs.StageLaws.{breaks-staged}
 use Rattle.demands.proofs.BoardTells.{board-tells}
+use Rattle.demands.proofs.SecondBoard.{second-is}
+use Rattle.demands.proofs.SplitLaws.{from-unsplit, to-unsplit}
 
 -- the rows of a board that breaks no rule
 module _
@@ -97,10 +101,11 @@ module _
     rest : drop (rowSize * cpuCount b) after ≡ drop (rowSize * cpuCount b) before
     rest = rw (← same) (written-rest (sourceOf b) before has-room)
 
-    rows-accepted : Accepted b before (record { number = 0; place = 0; count = cpuCount b; hash = hashOf (mpidrList b) }) after
+    rows-accepted : Accepted b before (record { number = 0; place = 0; second = noProperty; count = cpuCount b; hash = hashOf (mpidrList b) }) after
     rows-accepted =
         record {
           place = refl;
+          second = refl;
           fits = fits;
           only = λ rows h. fits-unique sized well sound handles kept h fits;
           rest = rest;
@@ -130,7 +135,13 @@ module _ {b : Board} (sized : WordSized b) (before : List ℕ) where
   unfolding answerOf rowsAfter
   refusal ne =
       rw (ne-eqb number 0 ne)
-      (record { first = first-told ne; count = refl; hash = refl; buffer = refl })
+      (record {
+        first = first-told ne;
+        second = second-is b (length before);
+        count = refl;
+        hash = refl;
+        buffer = refl;
+      })
 
   none : number ≡ 0 → (n p : ℕ) → Breaks b (length before) n p → ⊥
   none = tells-none (λ n p. breaks-staged) (board-tells sized (length before))
@@ -173,12 +184,25 @@ module _ {b : Board} (sized : WordSized b) (before : List ℕ) where
       go false e no-rule =
           absurd (no-rule (map-broken well sound room _ _ (first-told (eqb-false number 0 e) .first .broken)))
 
+  -- the rules before the split of 9 accept the same boards
+  unchanged : Unchanged b (length before) answer
+  unchanged =
+      record {
+        nine = nine;
+        accepted = (λ z. from-unsplit (none (sym answer-number ∙ z)), λ h. answer-number ∙ go (eqb number 0) refl (to-unsplit h));
+      }
+    where
+      go : (t : Bool) → eqb number 0 ≡ t → ((n p : ℕ) → Breaks b (length before) n p → ⊥) → number ≡ 0
+      go true e h = eqb-true number 0 e
+      go false e h = absurd (h _ _ (first-told (eqb-false number 0 e) .first .broken))
+
   -- the claim
   pub demands : Demands b before answer buffer
   demands =
       record {
         refused = λ ne. refusal (λ z. ne (answer-number ∙ z));
         sound = λ z. none (sym answer-number ∙ z);
+        unchanged = unchanged;
         reading = λ well sound room.
             record {
               exactly = rw answer-number (exactly well sound room);

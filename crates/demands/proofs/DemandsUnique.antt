@@ -19,24 +19,26 @@ use Rattle.demands.specs.declared.BoardAnswer.{BoardAnswer}
 use Rattle.demands.specs.facts.Rules.{Breaks}
 use Rattle.demands.specs.facts.Reading.{Refused, Accepted, Demands}
 
--- an answer is its four parts
-abbrev answer : ℕ → ℕ → ℕ → Hash → BoardAnswer
-answer number place count hash = record { number = number; place = place; count = count; hash = hash }
+-- an answer is its five parts
+abbrev answer : ℕ → ℕ → ℕ → ℕ → Hash → BoardAnswer
+answer number place second count hash = record { number = number; place = place; second = second; count = count; hash = hash }
 
 module _ (b : Board) (before : List ℕ) (x y : BoardAnswer) (after other : List ℕ) where
   abbrev Same : Type 0
   Same = (x ≡ y) × (after ≡ other)
 
-  parts : x .number ≡ y .number → x .place ≡ y .place → x .count ≡ y .count → x .hash ≡ y .hash → x ≡ y
-  parts n p c h =
-      ap₂ (λ (v w : ℕ). answer v w (x .count) (x .hash)) n p
-      ∙ ap₂ (λ (v : ℕ) (w : Hash). answer (y .number) (y .place) v w) c h
+  parts : x .number ≡ y .number → x .place ≡ y .place → x .second ≡ y .second → x .count ≡ y .count → x .hash ≡ y .hash → x ≡ y
+  parts n p s c h =
+      ap₂ (λ (v w : ℕ). answer v w (x .second) (x .count) (x .hash)) n p
+      ∙ ap (λ (v : ℕ). answer (y .number) (y .place) v (x .count) (x .hash)) s
+      ∙ ap₂ (λ (v : ℕ) (w : Hash). answer (y .number) (y .place) (y .second) v w) c h
 
   -- both refuse: the first broken rule is one, and all else is 0 or as before
   both-refuse : Refused b before x after → Refused b before y other → Same
   both-refuse h g =
       let told = first-unique stage (Breaks b (length before)) _ _ _ _ (h .first .first) (g .first .first) in
-      (parts (told .0) (told .1) (h .count ∙ sym (g .count)) (h .hash ∙ sym (g .hash)), h .buffer ∙ sym (g .buffer))
+      let second = g .second (x .second) .0 (rw (← told .0, ← told .1) (h .second (x .second) .1 refl)) in
+      (parts (told .0) (told .1) second (h .count ∙ sym (g .count)) (h .hash ∙ sym (g .hash)), h .buffer ∙ sym (g .buffer))
 
   -- both accept: the cpu records, their MPIDRs and the rows that fit are one each
   both-accept : WellFormed b → x .number ≡ 0 → y .number ≡ 0 → Accepted b before x after → Accepted b before y other → Same
@@ -47,7 +49,7 @@ module _ (b : Board) (before : List ℕ) (x y : BoardAnswer) (after other : List
       let rows : take (rowSize * x .count) after ≡ take (rowSize * y .count) other = g .only (take (rowSize * x .count) after) (h .fits) in
       let rest : drop (rowSize * x .count) after ≡ drop (rowSize * y .count) other =
       h .rest ∙ ap (λ (n : ℕ). drop (rowSize * n) before) count ∙ sym (g .rest) in (
-        parts (zx ∙ sym zy) (h .place ∙ sym (g .place)) count hash,
+        parts (zx ∙ sym zy) (h .place ∙ sym (g .place)) (h .second ∙ sym (g .second)) count hash,
         sym (take-append-drop (rowSize * x .count) after)
             ∙ ap₂ (λ (l m : List ℕ). l ++ m) rows rest
             ∙ take-append-drop (rowSize * y .count) other,

@@ -23,9 +23,9 @@ pub board-stages :
 unfolding boardFault surveyFault
 board-stages b room = simp or-assoc
 
--- at most 256 cpu records, once rules 9 and 10 have passed
+-- at most 256 cpu records, once nothing is told of the cpu nodes
 pub few-cpus : (b : Board) → cpusFault b .number ≡ 0 → cpuCount b ≤ 256
 unfolding cpusFault
 few-cpus b z =
-    let later = or-clear (told (rootFault b) 0) _ z .1 in
+    let later = or-clear (rootFault b) _ z .1 in
     count-fits (cpuCount b) (sym (told-number (countFault (cpuCount b)) 0) ∙ or-clear (told (countFault (cpuCount b)) 0) _ later .0)

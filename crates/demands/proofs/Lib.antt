@@ -2,6 +2,8 @@
 pub mod StageLaws
 pub mod LayerLaws
 pub mod BoardTells
+pub mod SecondBoard
+pub mod SplitLaws
 pub mod Claim
 pub mod BoundLaws
 pub mod DemandsUnique

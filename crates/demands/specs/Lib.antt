@@ -1,3 +1,3 @@
--- The rules of 01 and their order, the answer, and the demands on it.
+-- The rules and their order, the answer, and the demands on it.
 pub mod facts
 pub mod answers

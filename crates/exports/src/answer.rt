@@ -1,12 +1,16 @@
-// The ten words of an answer.
+// The eleven words of an answer.
 use affinity::Hash;
+use laws::limits::NO_PROPERTY;
 ghost use mathlib.Core.Path.{_≡_};
 ghost use Prim.Native.Nat.{_≤_};
 ghost use lib.ListN.{length};
 ghost use Rattle.exports.specs.answers.Answer.{answerSize, answerWords, orShort, answerAfter};
 
 // The words of an answer.
-pub const ANSWER_WORDS: usize = 10;
+pub const ANSWER_WORDS: usize = 11;
+
+// The second place of an answer that tells of no property.
+pub const NO_SECOND: u32 = NO_PROPERTY as u32;
 
 // A hash of zeros, for answers that have none.
 pub const NO_HASH: Hash = Hash {
@@ -15,11 +19,18 @@ pub const NO_HASH: Hash = Hash {
     bits: 0,
 };
 
-// Writes the ten words at the start of an answer that has room for them, and gives its number: what each call owes.
-pub fn put_answer(answer: &mut [u32], number: u32, place: u32, third: u32, hash: Hash) -> u32
+// Writes the eleven words at the start of an answer that has room for them, and gives its number: what each call owes.
+pub fn put_answer(
+    answer: &mut [u32],
+    number: u32,
+    place: u32,
+    second: u32,
+    third: u32,
+    hash: Hash,
+) -> u32
     requires { ⌜ answerSize ≤ length (now answer) ⌝ }
     ensures number { λ r. ⌜ r ≡ orShort (now (answer .entry)) number ⌝ }
-    ensures answer { λ _. ⌜ now (answer .exit) ≡ answerAfter (now (answer .entry)) (answerWords number place third hash) ⌝ }
+    ensures answer { λ _. ⌜ now (answer .exit) ≡ answerAfter (now (answer .entry)) (answerWords number place second third hash) ⌝ }
 {
     let shifts = hash.shifts;
     answer[0] = number;
@@ -32,5 +43,6 @@ pub fn put_answer(answer: &mut [u32], number: u32, place: u32, third: u32, hash:
     answer[7] = shifts[2];
     answer[8] = shifts[3];
     answer[9] = hash.bits;
+    answer[10] = second;
     number
 }

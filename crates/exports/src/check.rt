@@ -1,9 +1,12 @@
 // Rules 1 to 8 and the lookup of a property, for tests.
 use crate::answer::ANSWER_WORDS;
 use crate::answer::NO_HASH;
+use crate::answer::NO_SECOND;
 use crate::answer::put_answer;
+use laws::at_most;
+use laws::limits::NO_PROPERTY;
 use laws::rules;
-use tables::Lookup;
+use tables::record_of;
 ghost use mathlib.Core.Path.{_≡_};
 ghost use Rattle.tables.specs.facts.Board.{board};
 ghost use Rattle.tables.specs.answers.Lookup.{lookup};
@@ -30,7 +33,14 @@ pub extern "C" fn sunderwath_check_tables(
         return rules::ANSWER_SPACE;
     }
     let fault = wellformed::table_fault(width, nodes, props, pool);
-    put_answer(answer, fault.number, fault.place as u32, 0, NO_HASH)
+    put_answer(
+        answer,
+        fault.number,
+        fault.place as u32,
+        NO_SECOND,
+        0,
+        NO_HASH,
+    )
 }
 
 // The record number of a node's property, or 0xFFFFFFFF.
@@ -44,11 +54,5 @@ pub extern "C" fn sunderwath_find_property(
     ensures { λ r. ⌜ r ≡ foundWord (lookup (now (props .entry)) (now (pool .entry)) node (now (name .entry))) ⌝ }
 {
     let found = tables::find_property(props, pool, node as usize, name);
-    let Lookup::At(k) = found else {
-        return 0xFFFFFFFF;
-    };
-    if k < 0xFFFFFFFF {
-        return k as u32;
-    }
-    0xFFFFFFFF
+    at_most(record_of(found), NO_PROPERTY) as u32
 }

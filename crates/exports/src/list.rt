@@ -1,6 +1,7 @@
 // The two calls on a list of MPIDRs.
 use crate::answer::ANSWER_WORDS;
 use crate::answer::NO_HASH;
+use crate::answer::NO_SECOND;
 use crate::answer::put_answer;
 use laws::rules;
 ghost use mathlib.Core.Path.{_≡_};
@@ -19,7 +20,7 @@ pub extern "C" fn sunderwath_list_hash(list: &[u64], answer: &mut [u32]) -> u32
     }
     let found = affinity::list_hash(list);
     let hash = found.hash;
-    put_answer(answer, found.number, found.place as u32, 0, hash)
+    put_answer(answer, found.number, found.place as u32, NO_SECOND, 0, hash)
 }
 
 // The slot of one MPIDR in a list of MPIDRs.
@@ -36,6 +37,7 @@ pub extern "C" fn sunderwath_list_slot(mpidr: u64, list: &[u64], answer: &mut [u
         answer,
         found.number,
         found.place as u32,
+        NO_SECOND,
         found.slot,
         NO_HASH,
     )

@@ -3,10 +3,12 @@ use crate::answer::ANSWER_WORDS;
 use crate::answer::put_answer;
 use laws::rules;
 ghost use mathlib.Core.Path.{_≡_};
+ghost use Prim.Native.Nat.{_≤_};
 ghost use lib.ListN.{length};
 ghost use Rattle.tables.specs.facts.Board.{board};
 ghost use Rattle.demands.specs.answers.Answer.{answerOf};
-ghost use Rattle.exports.specs.answers.Answer.{orShort, answerAfter};
+ghost use Rattle.demands.specs.facts.Reading.{Demands};
+ghost use Rattle.exports.specs.answers.Answer.{answerSize, orShort, answerAfter};
 ghost use Rattle.exports.specs.answers.Board.{boardWords, rowsBehind};
 
 // Reads a board's tables: rows and answer, or the first rule broken.
@@ -28,6 +30,10 @@ pub extern "C" fn sunderwath_read_tables(
     ensures answer { λ _.
         let b = board width (now (nodes .entry)) (now (props .entry)) (now (pool .entry)) in
         ⌜ now (answer .exit) ≡ answerAfter (now (answer .entry)) (boardWords (answerOf b (length (now (rows .entry))))) ⌝ }
+    ensures demands { λ _.
+        let b = board width (now (nodes .entry)) (now (props .entry)) (now (pool .entry)) in
+        ⌜ (answerSize ≤ length (now (answer .entry))
+        → Demands b (now (rows .entry)) (answerOf b (length (now (rows .entry)))) (now (rows .exit))) ⌝ }
 {
     if answer.len() < ANSWER_WORDS {
         return rules::ANSWER_SPACE;
@@ -38,6 +44,7 @@ pub extern "C" fn sunderwath_read_tables(
         answer,
         found.number,
         found.place as u32,
+        found.second as u32,
         found.count as u32,
         hash,
     )

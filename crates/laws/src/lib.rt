@@ -9,8 +9,17 @@ pub use cut::at_most;
 pub use search::is_among;
 pub use search::place_in;
 
-// What a search for a broken rule tells: the rule's number and its place, or 0 and 0 where no rule is broken.
+// What a search for a broken rule tells: the rule's number, its place, and its second place, the record of the property that it
+// speaks of; 0, 0 and NO_PROPERTY where no rule is broken.
 pub struct Fault {
     pub number: u32,
     pub place: usize,
+    pub second: usize,
 }
+
+// No rule broken.
+pub const CLEAR: Fault = Fault {
+    number: 0,
+    place: 0,
+    second: limits::NO_PROPERTY,
+};

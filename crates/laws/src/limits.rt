@@ -18,6 +18,9 @@ pub const MAX_PROPERTY_NAME: usize = 31;
 // The parent word of record 0.
 pub const NO_PARENT: usize = 0xFFFFFFFF;
 
+// The second place where no property is told of.
+pub const NO_PROPERTY: usize = 0xFFFFFFFF;
+
 // Cpu records of a board, and MPIDRs of a list.
 pub const MAX_CPUS: usize = 256;
 

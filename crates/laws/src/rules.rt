@@ -24,8 +24,14 @@ pub const PROPERTY_RANGE: u32 = 7;
 // A property repeats an earlier one of its node.
 pub const DUPLICATE_PROPERTY: u32 = 8;
 
-// Record 0 is not `cpus` with sound `#address-cells` and `#size-cells`.
+// Record 0 is not named `cpus`.
 pub const CPUS_NODE: u32 = 9;
+
+// `#address-cells` of record 0 is missing, not four bytes, or a number that the width does not allow.
+pub const CPUS_ADDRESS_CELLS: u32 = 36;
+
+// `#size-cells` of record 0 is missing, or not four zero bytes.
+pub const CPUS_SIZE_CELLS: u32 = 37;
 
 // There are no cpu records, or more than 256.
 pub const CPU_COUNT: u32 = 10;

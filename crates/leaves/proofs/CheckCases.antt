@@ -5,12 +5,14 @@ use Prim.Native.Nat.{ℕ, _≤_, _<_}
 use lib.Dec.{ltb}
 use lib.ListN.{length}
 use borrow.Author.Tests.{ltb-true, ltb-false}
+use Rattle.laws.specs.facts.Limits.{noProperty}
 use Rattle.laws.specs.answers.Fault.{orNumber}
 use Rattle.laws.proofs.FaultLaws.{or-number-zero, or-number-right}
+use Rattle.tables.specs.answers.Lookup.{recordOf}
 use Rattle.topology.specs.declared.RecordShape.{RecordShape}
 use Rattle.topology.specs.answers.Check.{recordShape}
 use Rattle.leaves.specs.declared.RecordCheck.{RecordCheck}
-use Rattle.leaves.specs.answers.Check.{leafCpu, broken, recordCheck}
+use Rattle.leaves.specs.answers.Check.{leafCpu, recordCheck}
 use Rattle.leaves.specs.answers.Scan.{Tree, check, repeatFault, treeFault}
 
 module _ (t : Tree) (i : ℕ) where
@@ -19,16 +21,20 @@ module _ (t : Tree) (i : ℕ) where
   shapeOf = recordShape (t .nodes) (t .pool) (t .root) i
 
   abbrev pub named : ℕ
-  named = leafCpu (t .cells) (t .phandles) i
+  named = leafCpu (t .at) (t .pool) (t .phandles) i
 
-  -- no leaf: number v
-  abbrev pub Answers : ℕ → Type 0
-  Answers v = check t i ≡ broken v (length (t .phandles))
+  -- no leaf: number v, and its second place s
+  abbrev pub Answers : ℕ → ℕ → Type 0
+  Answers v s = check t i ≡ record { number = v; second = s; leaf = false; cpu = length (t .phandles) }
 
   pub data Checked : Type 0 where
-    inner : shapeOf .leaf ≡ false → Answers (shapeOf .number) → Checked
-    nameless : shapeOf .leaf ≡ true → length (t .phandles) ≤ named → Answers 24 → Checked
-    leaf : shapeOf .leaf ≡ true → named < length (t .phandles) → check t i ≡ record { number = 0; leaf = true; cpu = named } → Checked
+    inner : shapeOf .leaf ≡ false → Answers (shapeOf .number) noProperty → Checked
+    nameless : shapeOf .leaf ≡ true → length (t .phandles) ≤ named → Answers 24 (recordOf (t .at i)) → Checked
+    leaf :
+        shapeOf .leaf ≡ true →
+        named < length (t .phandles) →
+        check t i ≡ record { number = 0; second = noProperty; leaf = true; cpu = named } →
+        Checked
 
   pub checked : Checked
   unfolding recordCheck
@@ -40,7 +46,7 @@ module _ (t : Tree) (i : ℕ) where
       go true e true f = Checked.leaf e (ltb-true _ _ f) (rw (e, f))
 
   -- where the record is no leaf, the number answered is all that is told of it
-  pub answers-fault : (v : ℕ) → Answers v → treeFault t i ≡ orNumber v 0
+  pub answers-fault : (v : ℕ) {s : ℕ} → Answers v s → treeFault t i ≡ orNumber v 0
   unfolding treeFault
   answers-fault v a = rw (ap (λ (r : RecordCheck). r .leaf) a, ap (λ (r : RecordCheck). r .number) a)
 

@@ -26,7 +26,7 @@ pub record Naming (t : Tree) (i : ℕ) : Type 0 where
   pub number : check t i .number ≡ 0
 
 module _ (t : Tree) where
-  not-leaf : {v : ℕ} (i : ℕ) → Answers t i v → isLeaf t i ≡ true → Naming t i
+  not-leaf : {v s : ℕ} (i : ℕ) → Answers t i v s → isLeaf t i ≡ true → Naming t i
   not-leaf i a h = true-false h (ap (λ (r : RecordCheck). r .leaf) a)
 
   pub leaf-is : (i : ℕ) → isLeaf t i ≡ true → Naming t i

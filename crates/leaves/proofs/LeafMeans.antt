@@ -17,21 +17,21 @@ use Rattle.cpus.specs.declared.Value.{Value}
 use Rattle.cpus.specs.declared.Value.the-variants.{Number, Invalid}
 use Rattle.cpus.specs.facts.Node.{Phandle}
 use Rattle.cpus.specs.facts.Rules.{SoundPhandles}
-use Rattle.cpus.specs.answers.Cell.{cellOf}
+use Rattle.cpus.specs.answers.Cell.{cellIn, cellOf}
 use Rattle.cpus.specs.answers.Check.{cpuList, phandleList}
 use Rattle.cpus.proofs.ValueMeans.{value-unique, cell-test, test-cell}
 use Rattle.leaves.specs.facts.Leaf.{Names}
-use Rattle.leaves.specs.answers.Check.{indexOf, leafCpu, cpuCells}
+use Rattle.leaves.specs.answers.Check.{indexOf, leafCpu, cpuProperty}
 use Rattle.leaves.proofs.PhandleMeans.{cpuAt, cpuIndex, in-cpus, in-phandles, cpu-index, index-cpu, phandle-at, index-apart}
 
 -- the index that a record's `cpu` gives
 abbrev pub namedIndex : Board → ℕ → ℕ
-namedIndex b i = leafCpu (cpuCells (b .props) (b .pool)) (phandleList b) i
+namedIndex b i = leafCpu (cpuProperty (b .props) (b .pool)) (b .pool) (phandleList b) i
 
 module _ {b : Board} (sized : WordSized b) (well : WellFormed b) (handles : SoundPhandles b) where
   -- it is that of a cpu record which the record names ..
   pub index-names : (i : ℕ) → namedIndex b i < length (phandleList b) → Names b i (cpuAt b (namedIndex b i))
-  unfolding leafCpu
+  unfolding leafCpu cellOf
   index-names i = go (cellOf (b .props) (b .pool) i cpuKey) refl
     where
       go :
@@ -54,7 +54,7 @@ module _ {b : Board} (sized : WordSized b) (well : WellFormed b) (handles : Soun
 
   -- .. and a record that names a cpu record gives its index
   pub names-index : (i c : ℕ) → Names b i c → namedIndex b i ≡ cpuIndex b c
-  unfolding leafCpu
+  unfolding leafCpu cellOf
   names-index i c n = rw cell-is found
     where
       k : ℕ
@@ -69,7 +69,7 @@ module _ {b : Board} (sized : WordSized b) (well : WellFormed b) (handles : Soun
       of-c : Phandle b c h
       of-c = rw (cpu-index well c (n .is-cpu) .1) at (phandle-at sized well handles k in-k)
 
-      cell-is : cellOf (b .props) (b .pool) i cpuKey ≡ Number h
+      cell-is : cellIn (b .pool) (cpuProperty (b .props) (b .pool) i) ≡ Number h
       cell-is = test-cell sized well i cpuKey (rw (value-unique well (n .phandle) (of-c .value)) at (n .cpu)) (of-c .word)
 
       test : ℕ → Bool

@@ -1,6 +1,6 @@
 -- Laws that belong to no one function.
 pub mod RuleCases
-pub mod CellLaws
+pub mod PropertyLaws
 pub mod PhandleMeans
 pub mod CheckCases
 pub mod LeafCount
@@ -9,6 +9,7 @@ pub mod CheckLeaf
 pub mod LeafRules
 pub mod TreeLeast
 pub mod TreeTells
+pub mod SecondMeans
 pub mod TreeGives
 pub mod RecordPassLaws
 pub mod ScanLaws

@@ -10,7 +10,7 @@ use lib.Dec.{eqb}
 use lib.ListN.{length, getD, set, replicate, length-set, length-replicate, getD-replicate, List·getD-eq-default}
 use lib.Seq.{getD-set-same, getD-set-other}
 use borrow.Author.Tests.{ne-eqb, eqb-true, eqb-false}
-use Rattle.laws.specs.answers.Fault.{clear, orNumber, firstFault}
+use Rattle.laws.specs.answers.Fault.{plain, clear, orNumber, firstFault}
 use Rattle.laws.specs.answers.Search.{anyBelow, countBelow, listBelow}
 use Rattle.laws.specs.answers.Listed.{laidOver}
 use Rattle.laws.proofs.SearchLaws.{lt-or-le, count-yes, count-no, list-no, list-length}
@@ -87,12 +87,12 @@ module _ (t : Tree) (leaves₀ named₀ : List ℕ) where
 
     -- record i breaks a rule
     module _ {v : ℕ} (lt : i < nodeCount (t .nodes)) (e : v ≡ treeFault t i) (ne : v ≡ 0 → ⊥) where
-      first-at : firstFault (treeFault t) (nodeCount (t .nodes)) ≡ record { number = v; place = i }
+      first-at : firstFault (treeFault t) (nodeCount (t .nodes)) ≡ plain v i
       first-at = sym (at-fault (treeFault t) i (nodeCount (t .nodes)) lt (g .clean) e ne)
 
-      pub told-scan : record { number = v; place = i; count = 0 } ≡ leafScan t
+      pub told-scan : {s : ℕ} → s ≡ check t i .second → record { fault = record { number = v; place = i; second = s }; count = 0 } ≡ leafScan t
       unfolding leafScan
-      told-scan = rw (first-at, ne-eqb v 0 ne)
+      told-scan second = rw (first-at, ne-eqb v 0 ne, second)
 
       pub told-left : LeftHere
       told-left = left (rw (first-at, ne-eqb v 0 ne))
@@ -102,7 +102,7 @@ module _ (t : Tree) (leaves₀ named₀ : List ℕ) where
       first-none : firstFault (treeFault t) (nodeCount (t .nodes)) ≡ clear
       first-none = sym (at-end (treeFault t) i (nodeCount (t .nodes)) e (g .clean))
 
-      pub all-scan : record { number = 0; place = 0; count = count } ≡ leafScan t
+      pub all-scan : record { fault = clear; count = count } ≡ leafScan t
       unfolding leafScan
       all-scan =
           let size : count ≡ length (leafList t) = g .counted ∙ sym (list-length (isLeaf t) i) ∙ ap (λ (k : ℕ). length (listBelow (isLeaf t) k)) e in

@@ -10,6 +10,7 @@ use Rattle.laws.proofs.FaultLaws.{place-le}
 use Rattle.laws.proofs.ListedLaws.{first-listed}
 use Rattle.laws.proofs.FirstLaws.{Tells, Stage, stage-tells}
 use Rattle.laws.proofs.RuleStageLaws.{else-place, then-tells}
+use Rattle.laws.proofs.SecondPlaceLaws.{second-tells}
 use Rattle.laws.proofs.VerdictLaws.{number-stage}
 use Rattle.tables.specs.facts.Board.{Board, WordSized, nodeCount}
 use Rattle.wellformed.specs.facts.Order.{stage}
@@ -19,7 +20,7 @@ use Rattle.cpus.specs.answers.Check.{isCpu, cpuList}
 use Rattle.cpumap.specs.facts.Map.{Map}
 use Rattle.topology.proofs.RuleCases as topology
 use Rattle.leaves.specs.facts.Rules.{LeafRule}
-use Rattle.leaves.specs.answers.Scan.{Tree, treeAt, namedBelow, treeFault, leavesFault}
+use Rattle.leaves.specs.answers.Scan.{Tree, treeAt, check, namedBelow, treeFault, recordFault, leavesFault}
 use Rattle.leaves.proofs.RuleCases.{TreeRule}
 use Rattle.leaves.proofs.LeafRules.{unmappedFault, unmapped-told}
 use Rattle.leaves.proofs.TreeLeast.{records-stage, sound-checks}
@@ -27,7 +28,7 @@ use Rattle.leaves.proofs.TreeLeast.{records-stage, sound-checks}
 -- the leaves' stages, place by place: rule 26 told of the cpu records of the tables
 module _ (b : Board) (m : ℕ) where
   abbrev here : Fault
-  here = firstFault (treeFault (treeAt b m)) (nodeCount (b .nodes))
+  here = recordFault (treeAt b m)
 
   abbrev there : Fault
   there = firstFault (unmappedFault (treeAt b m)) (nodeCount (b .nodes))
@@ -68,5 +69,6 @@ module _ {b : Board} (sized : WordSized b) (well : WellFormed b) (sound : SoundC
   tree-tells =
       rw (leaf-places b m)
       (then-tells stage (TreeRule b) (omega arith) (omega arith)
-      (stage-tells stage (TreeRule b) (stage 18) count (treeFault t) (records-stage sized well sound handles is-map)) λ none.
+      (second-tells (λ i. check t i .second)
+      (stage-tells stage (TreeRule b) (stage 18) count (treeFault t) (records-stage sized well sound handles is-map))) λ none.
       stage-tells stage (TreeRule b) (stage 26) count (unmappedFault t) (unmapped-stage (λ n p r e. none n p (r, omega arith, omega arith))))

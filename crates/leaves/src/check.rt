@@ -4,9 +4,11 @@ use crate::leaf::leaf_check;
 use crate::leaf::leaf_cpu;
 use crate::leaf::no_leaf;
 use property_index::INDEX_WORDS;
+use property_index::Key;
+use property_index::find_indexed;
 use topology::record_shape;
 ghost use mathlib.Core.Path.{_≡_};
-ghost use Rattle.leaves.specs.answers.Check.{indexedCells, recordCheck};
+ghost use Rattle.leaves.specs.answers.Check.{indexedCpu, recordCheck};
 
 // What record i breaks of 18 to 24, and the cpu that it names where it is a leaf.
 pub fn record_check(
@@ -19,12 +21,13 @@ pub fn record_check(
     i: usize,
 ) -> RecordCheck
     ensures { λ r.
-        let cells = indexedCells (now (props .entry)) (now (pool .entry)) (now (index .entry)) in
-        ⌜ r ≡ recordCheck (now (nodes .entry)) cells (now (pool .entry)) map (now (phandles .entry)) i ⌝ }
+        let at = indexedCpu (now (props .entry)) (now (index .entry)) in
+        ⌜ r ≡ recordCheck (now (nodes .entry)) at (now (pool .entry)) map (now (phandles .entry)) i ⌝ }
 {
     let shape = record_shape(nodes, pool, map, i);
     if shape.leaf {
-        return leaf_check(phandles.len(), leaf_cpu(props, pool, index, phandles, i));
+        let found = find_indexed(props, index, i, Key::Cpu);
+        return leaf_check(found, phandles.len(), leaf_cpu(pool, phandles, found));
     }
     no_leaf(shape.number, phandles.len())
 }

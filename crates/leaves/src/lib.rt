@@ -4,18 +4,20 @@ mod leaf;
 mod pass;
 mod scan;
 
+use laws::Fault;
 pub use scan::read_tree;
 
-// What a record of the tree breaks, 0 where nothing, and which cpu it names, by its index among the cpu records, where it is a leaf.
+// What a record of the tree breaks, 0 where nothing, the second place of what is told of it, and which cpu it names, by its index among the
+// cpu records, where it is a leaf.
 struct RecordCheck {
     pub number: u32,
+    pub second: usize,
     pub leaf: bool,
     pub cpu: usize,
 }
 
-// How many leaves a map has, or the number and the place of the first of rules 18 to 26 that is broken.
+// The first of rules 18 to 26 that is broken, or how many leaves a map has.
 pub struct TreeScan {
-    pub number: u32,
-    pub place: usize,
+    pub fault: Fault,
     pub count: usize,
 }

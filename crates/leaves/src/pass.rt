@@ -2,6 +2,8 @@
 use crate::RecordCheck;
 use crate::TreeScan;
 use crate::check::record_check;
+use laws::CLEAR;
+use laws::Fault;
 use laws::limits::MAX_CPUS;
 use laws::rules;
 use property_index::INDEX_WORDS;
@@ -10,7 +12,7 @@ ghost use Prim.Native.Nat.{_≤_};
 ghost use lib.ListN.{length, replicate};
 ghost use Rattle.tables.specs.facts.Board.{nodeCount};
 ghost use Rattle.laws.specs.facts.Limits.{maxNodes, maxCpus};
-ghost use Rattle.leaves.specs.answers.Check.{indexedCells};
+ghost use Rattle.leaves.specs.answers.Check.{indexedCpu};
 ghost use Rattle.leaves.specs.answers.Scan.{tree};
 ghost use Rattle.leaves.specs.steps.Pass.{isMarked, PassArrays, checkedFault, leafScan};
 
@@ -40,15 +42,11 @@ fn checked_fault(marks: &[u8], check: RecordCheck) -> u32
     0
 }
 
-// No leaves counted: the number and the place of what is broken.
-pub fn refuse(number: u32, place: usize) -> TreeScan
-    ensures { λ r. ⌜ r ≡ record { number = number; place = place; count = 0 } ⌝ }
+// No leaves counted: what is broken.
+pub fn refuse(fault: Fault) -> TreeScan
+    ensures { λ r. ⌜ r ≡ record { fault = fault; count = 0 } ⌝ }
 {
-    TreeScan {
-        number,
-        place,
-        count: 0,
-    }
+    TreeScan { fault, count: 0 }
 }
 
 // How many leaves there are, or the first of rules 18 to 25 that is broken. The leaves up to the record that breaks one are
@@ -67,12 +65,12 @@ pub fn scan_records(
     requires few { ⌜ (length (now phandles) ≤ maxCpus) × (nodeCount (now nodes) ≤ maxNodes) ⌝ }
     requires marks { ⌜ now marks ≡ replicate maxCpus 0 ⌝ }
     ensures answer { λ r.
-        let cells = indexedCells (now (props .entry)) (now (pool .entry)) (now (index .entry)) in
-        let t = tree (now (nodes .entry)) cells (now (pool .entry)) map (now (phandles .entry)) in
+        let at = indexedCpu (now (props .entry)) (now (index .entry)) in
+        let t = tree (now (nodes .entry)) at (now (pool .entry)) map (now (phandles .entry)) in
         ⌜ r ≡ leafScan t ⌝ }
     ensures arrays { λ _.
-        let cells = indexedCells (now (props .entry)) (now (pool .entry)) (now (index .entry)) in
-        let t = tree (now (nodes .entry)) cells (now (pool .entry)) map (now (phandles .entry)) in
+        let at = indexedCpu (now (props .entry)) (now (index .entry)) in
+        let t = tree (now (nodes .entry)) at (now (pool .entry)) map (now (phandles .entry)) in
         ⌜ PassArrays t (now (leaves .entry)) (now (named .entry)) (now (marks .exit)) (now (leaves .exit)) (now (named .exit)) ⌝ }
 {
     let n = nodes.len() / 3;
@@ -82,7 +80,11 @@ pub fn scan_records(
         let check = record_check(nodes, props, pool, index, map, phandles, i);
         let number = checked_fault(marks, check);
         if number != 0 {
-            return refuse(number, i);
+            return refuse(Fault {
+                number,
+                place: i,
+                second: check.second,
+            });
         }
         if !check.leaf {
             i += 1;
@@ -96,8 +98,7 @@ pub fn scan_records(
         i += 1;
     }
     TreeScan {
-        number: 0,
-        place: 0,
+        fault: CLEAR,
         count,
     }
 }

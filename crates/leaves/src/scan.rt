@@ -3,10 +3,12 @@ use crate::TreeScan;
 use crate::pass::is_marked;
 use crate::pass::refuse;
 use crate::pass::scan_records;
+use laws::CLEAR;
 use laws::Fault;
 use laws::at_most;
 use laws::limits::MAX_CPUS;
 use laws::limits::MAX_NODES;
+use laws::limits::NO_PROPERTY;
 use laws::rules;
 use property_index::INDEX_WORDS;
 ghost use mathlib.Core.Path.{_≡_};
@@ -28,14 +30,12 @@ fn first_unmapped(records: &[u16], marks: &[u8]) -> Fault
             return Fault {
                 number: rules::CPU_UNMAPPED,
                 place: records[k] as usize,
+                second: NO_PROPERTY,
             };
         }
         k += 1;
     }
-    Fault {
-        number: 0,
-        place: 0,
-    }
+    CLEAR
 }
 
 // Checks rules 18 to 26, and lists the leaves, and for each the index of the cpu record that it names. It looks at the first 1,024 records and
@@ -75,12 +75,12 @@ pub fn read_tree(
         leaves,
         named,
     );
-    if scan.number != 0 {
+    if scan.fault.number != 0 {
         return scan;
     }
     let fault = first_unmapped(cpu_records, &marks);
     if fault.number != 0 {
-        return refuse(fault.number, fault.place);
+        return refuse(fault);
     }
     scan
 }

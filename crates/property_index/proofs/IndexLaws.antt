@@ -13,7 +13,7 @@ use Rattle.laws.proofs.SearchLaws.{lt-or-le}
 use Rattle.tables.specs.declared.Lookup.the-variants.{At, Missing}
 use Rattle.laws.specs.facts.Limits.{maxNodes, maxProperties}
 use Rattle.tables.specs.facts.Board.{propCount, propNode, keyOffset, keyLength}
-use Rattle.tables.specs.answers.Lookup.{isProperty, foundBelow, lookup}
+use Rattle.tables.specs.answers.Lookup.{isProperty, foundAt, foundBelow, lookup}
 use Rattle.property_index.specs.declared.Key.{Key}
 use Rattle.property_index.specs.answers.Key.{keyName, keyNumber}
 use Rattle.property_index.specs.answers.Index.{indexedBelow, indexed, lookupIn, indexedAt}
@@ -37,10 +37,10 @@ word-more p n = go (ltb (lowest p n) n) refl (p n)
     go false e true = rw (lt-ltb n (suc n) (omega arith)) (omega arith)
     go false e false = rw (le-ltb (suc n) (suc n) (omega arith))
 
-word-found : (p : ℕ → Bool) (n : ℕ) → lookupIn (lowestWord p n) ≡ foundBelow n (lowest p n)
-word-found p n = go (ltb (lowest p n) n)
+word-found : (props : List ℕ) (p : ℕ → Bool) (n : ℕ) → lookupIn props (lowestWord p n) ≡ foundBelow props n (lowest p n)
+word-found props p n = go (ltb (lowest p n) n)
   where
-    go : (t : Bool) → lookupIn (cond t (suc (lowest p n)) 0) ≡ cond t (At (lowest p n)) Missing
+    go : (t : Bool) → lookupIn props (cond t (suc (lowest p n)) 0) ≡ cond t (At (foundAt props (lowest p n))) Missing
     go true = refl
     go false = refl
 
@@ -68,11 +68,11 @@ module _
         noted-word (index n) pool (propNode props n) offset len n i (keyNumber key) (keys-length blank props pool n ∙ size) (low n le) (number-lt key)
         ∙ rw (key-is pool offset len key, word n (omega arith)) (word-more test n)
 
-    finds : propCount props ≤ maxProperties → indexedAt (indexed blank props pool) i key ≡ lookup props pool i (keyName key)
+    finds : propCount props ≤ maxProperties → indexedAt props (indexed blank props pool) i key ≡ lookup props pool i (keyName key)
     unfolding lookup indexedAt
     finds few =
         let all : min (propCount props) maxProperties ≡ propCount props = omega arith in
-        rw (all, word (propCount props) (omega arith)) (word-found test (propCount props))
+        rw (all, word (propCount props) (omega arith)) (word-found props test (propCount props))
 
 -- a table of zeros with the keys of all properties noted tells what a lookup finds
 pub index-finds :
@@ -80,7 +80,7 @@ pub index-finds :
     propCount props ≤ maxProperties →
     ((k : ℕ) → k < propCount props → propNode props k < maxNodes) →
     (i : ℕ) (key : Key) →
-    indexedAt (indexed (replicate 4096 0) props pool) i key ≡ lookup props pool i (keyName key)
+    indexedAt props (indexed (replicate 4096 0) props pool) i key ≡ lookup props pool i (keyName key)
 index-finds props pool few low i key = finds props pool (replicate 4096 0) low (length-replicate {A = ℕ} 4096 0) empty i key few
   where
     empty : (j : ℕ) → _≡_ {A = ℕ} (getD (replicate 4096 0) j 0) 0

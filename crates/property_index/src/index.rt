@@ -8,6 +8,7 @@ use laws::at_most;
 use laws::limits::MAX_NODES;
 use laws::limits::MAX_PROPERTIES;
 use tables::Lookup;
+use tables::found_at;
 use tables::wide;
 ghost use mathlib.Core.Path.{_≡_};
 ghost use Prim.Native.Nat.{_<_};
@@ -64,9 +65,9 @@ pub fn index_properties(props: &[u32], pool: &[u8], table: &mut [u16; INDEX_WORD
     }
 }
 
-// Where the property that is a key of record i stands.
-pub fn find_indexed(table: &[u16; INDEX_WORDS], i: usize, key: Key) -> Lookup
-    ensures { λ r. ⌜ r ≡ indexedAt (now (table .entry)) i key ⌝ }
+// The property that is a key of record i.
+pub fn find_indexed(props: &[u32], table: &[u16; INDEX_WORDS], i: usize, key: Key) -> Lookup
+    ensures { λ r. ⌜ r ≡ indexedAt (now (props .entry)) (now (table .entry)) i key ⌝ }
 {
     let words = &table[..];
     if MAX_NODES <= i {
@@ -76,5 +77,5 @@ pub fn find_indexed(table: &[u16; INDEX_WORDS], i: usize, key: Key) -> Lookup
     if noted == 0 {
         return Lookup::Missing;
     }
-    Lookup::At(noted - 1)
+    Lookup::At(found_at(props, noted - 1))
 }

@@ -1,8 +1,10 @@
 // Rules 5 and 6: each node record.
 use crate::name::sound_name;
+use laws::CLEAR;
 use laws::Fault;
 use laws::limits::MAX_NODE_NAME;
 use laws::limits::NO_PARENT;
+use laws::limits::NO_PROPERTY;
 use laws::rules;
 use tables::is_below;
 use tables::node_word;
@@ -54,12 +56,13 @@ pub fn first_node_fault(nodes: &[u32], bytes: usize) -> Fault
     while i < n {
         let number = node_fault(nodes, bytes, i);
         if number != 0 {
-            return Fault { number, place: i };
+            return Fault {
+                number,
+                place: i,
+                second: NO_PROPERTY,
+            };
         }
         i += 1;
     }
-    Fault {
-        number: 0,
-        place: 0,
-    }
+    CLEAR
 }

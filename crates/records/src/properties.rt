@@ -3,8 +3,10 @@ use crate::name::sound_name;
 use crate::starts::NO_START;
 use crate::starts::PLACES;
 use crate::starts::start_of;
+use laws::CLEAR;
 use laws::Fault;
 use laws::limits::MAX_PROPERTY_NAME;
+use laws::limits::NO_PROPERTY;
 use laws::rules;
 use tables::is_inside;
 use tables::range_is;
@@ -68,7 +70,11 @@ pub fn first_property_fault(count: usize, props: &[u32], pool: &[u8]) -> Fault
         let size = wide(props[own + 4]);
         if !sound_property(count, pool.len(), node, start, len, value, size) {
             let number = rules::PROPERTY_RANGE;
-            return Fault { number, place: k };
+            return Fault {
+                number,
+                place: k,
+                second: NO_PROPERTY,
+            };
         }
         let end = start + len;
         let name = &pool[start..end];
@@ -84,9 +90,12 @@ pub fn first_property_fault(count: usize, props: &[u32], pool: &[u8]) -> Fault
         k += 1;
     }
     if n <= k {
-        let number = 0;
-        return Fault { number, place: 0 };
+        return CLEAR;
     }
     let number = rules::DUPLICATE_PROPERTY;
-    Fault { number, place: k }
+    Fault {
+        number,
+        place: k,
+        second: NO_PROPERTY,
+    }
 }

@@ -11,7 +11,7 @@ use Rattle.laws.proofs.SearchLaws.{lowest-at, lowest-more}
 use Rattle.tables.specs.declared.Lookup.the-variants.{At, Missing}
 use Rattle.tables.specs.answers.Range.{rangeIs}
 use Rattle.tables.specs.facts.Board.{propCount, propNode, keyOffset, keyLength}
-use Rattle.tables.specs.answers.Lookup.{isProperty, foundBelow, lookup}
+use Rattle.tables.specs.answers.Lookup.{isProperty, foundAt, foundBelow, lookup}
 use Rattle.tables.proofs.CodePool.{word-zero}
 
 module _ (props pool : List ℕ) (node : ℕ) (key : List ℕ) where
@@ -51,12 +51,12 @@ module _ (props pool : List ℕ) (node : ℕ) (key : List ℕ) where
       lowest (isProperty props pool node key) k ≡ k →
       isProperty props pool node key k ≡ true →
       k < propCount props →
-      At k ≡ lookup props pool node key
+      At (foundAt props k) ≡ lookup props pool node key
   unfolding lookup
   found-at k none test lt =
-      let e : foundBelow (propCount props) k ≡ At k = rw (lt-ltb k (propCount props) lt) in
+      let e : foundBelow props (propCount props) k ≡ At (foundAt props k) = rw (lt-ltb k (propCount props) lt) in
       let found = lowest-at (isProperty props pool node key) k (propCount props) lt none test in
-      sym e ∙ ap (foundBelow (propCount props)) found
+      sym e ∙ ap (foundBelow props (propCount props)) found
 
   pub found-none : (k : ℕ) → k ≡ propCount props → lowest (isProperty props pool node key) k ≡ k → Missing ≡ lookup props pool node key
   unfolding lookup

@@ -2,6 +2,7 @@
 pub mod TreeLaws
 pub mod DepthLaws
 pub mod LookupLaws
+pub mod SecondLaws
 pub mod DecideLaws
 pub mod CellLaws
 pub mod CodeLookup

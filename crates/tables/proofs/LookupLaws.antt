@@ -17,7 +17,7 @@ use Rattle.tables.specs.declared.Lookup.the-variants.{At, Missing}
 use Rattle.tables.specs.facts.Board.{Board, Inside, range, propCount, propNode, keyOffset, keyLength}
 use Rattle.tables.specs.answers.Range.{rangeIs}
 use Rattle.tables.specs.facts.Property.{Property}
-use Rattle.tables.specs.answers.Lookup.{isProperty, lookup}
+use Rattle.tables.specs.answers.Lookup.{isProperty, foundAt, lookup}
 
 -- the test of a range of the pool
 module _ (pool : List ℕ) (offset len : ℕ) (bytes : List ℕ) where
@@ -60,10 +60,14 @@ module _ (b : Board) (i : ℕ) (key : List ℕ) where
   abbrev found : ℕ
   found = lowest test count
 
-  -- what each answer of the lookup shows, on any tables: the lowest record that matches ..
-  lookup-at : (k : ℕ) → lookup (b .props) (b .pool) i key ≡ At k → LowestProperty b i key k
+  -- what the lookup answers, on any tables: the lowest record that matches, or that none does
+  abbrev pub Answers : Lookup → Type 0
+  Answers l =
+      ((k : ℕ) × (l ≡ At (foundAt (b .props) k)) × LowestProperty b i key k) ⊎ ((l ≡ Missing) × ((k : ℕ) → Property b i key k → ⊥))
+
+  pub lookup-cases : Answers (lookup (b .props) (b .pool) i key)
   unfolding lookup
-  lookup-at k = go (ltb found count) refl
+  lookup-cases = go (ltb found count) refl
     where
       at-found : ltb found count ≡ true → LowestProperty b i key found
       at-found e =
@@ -72,25 +76,7 @@ module _ (b : Board) (i : ℕ) (key : List ℕ) where
             no-lower = λ j lt h. true-false (true-is-property j h) (lowest-below test count j lt);
           }
 
-      go : (t : Bool) → ltb found count ≡ t → cond t (At found) Missing ≡ At k → LowestProperty b i key k
-      go true e g = let q : found ≡ k = cc in rw q at (at-found e)
-      go false e g = let z : _≡_ {A = ℕ} 0 1 = cc in absurd (omega arith)
-
-  -- .. or that none does
-  lookup-missing : lookup (b .props) (b .pool) i key ≡ Missing → (k : ℕ) → Property b i key k → ⊥
-  unfolding lookup
-  lookup-missing = go (ltb found count) refl
-    where
-      go : (t : Bool) → ltb found count ≡ t → cond t (At found) Missing ≡ Missing → (k : ℕ) → Property b i key k → ⊥
-      go true e g = let z : _≡_ {A = ℕ} 0 1 = cc in absurd (omega arith)
-      go false e g = λ k h. true-false (true-is-property k h) (lowest-below test count k (omega (arith, h .inside, ltb-false found count e)))
-
-  abbrev pub Answers : Lookup → Type 0
-  Answers l = ((k : ℕ) × (l ≡ At k) × LowestProperty b i key k) ⊎ ((l ≡ Missing) × ((k : ℕ) → Property b i key k → ⊥))
-
-  pub lookup-cases : Answers (lookup (b .props) (b .pool) i key)
-  lookup-cases = go (lookup (b .props) (b .pool) i key) refl
-    where
-      go : (l : Lookup) → lookup (b .props) (b .pool) i key ≡ l → Answers (lookup (b .props) (b .pool) i key)
-      go (At k) e = inl (k, e, lookup-at k e)
-      go Missing e = inr (e, lookup-missing e)
+      go : (t : Bool) → ltb found count ≡ t → Answers (cond t (At (foundAt (b .props) found)) Missing)
+      go true e = inl (found, refl, at-found e)
+      go false e =
+          inr (refl, λ k h. true-false (true-is-property k h) (lowest-below test count k (omega (arith, h .inside, ltb-false found count e))))

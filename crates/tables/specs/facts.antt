@@ -1,5 +1,6 @@
 -- What has to be believed: each is a fact of the papers or a word that such facts use.
 pub mod Board
 pub mod Property
+pub mod Second
 pub mod Tree
 pub mod Binding

@@ -9,6 +9,8 @@ pub use pool::cell_at;
 pub use pool::is_inside;
 pub use pool::range_is;
 pub use property::find_property;
+pub use property::found_at;
+pub use property::record_of;
 pub use tree::is_below;
 pub use tree::is_child;
 pub use tree::name_is;
@@ -23,8 +25,15 @@ pub enum Parent {
     Top,
 }
 
-// The record number of a property, or Missing.
+// A property that was found: the number of its record, and where its value stands in the pool.
+pub struct Found {
+    pub number: usize,
+    pub offset: usize,
+    pub len: usize,
+}
+
+// The property that was looked for, or Missing.
 pub enum Lookup {
-    At(usize),
+    At(Found),
     Missing,
 }

@@ -6,4 +6,5 @@ pub mod KindMeans
 pub mod RecordMeans
 pub mod PlaceMeans
 pub mod ShapeMeans
+pub mod ShapeNumberLaws
 pub mod CodeLaws

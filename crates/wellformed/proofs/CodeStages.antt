@@ -3,7 +3,7 @@ use mathlib.Core.Path.{_≡_, sym, ap, _∙_}
 use Prim.Native.Nat.{ℕ}
 use lib.ListN.{length}
 use Rattle.laws.specs.declared.Fault.{Fault}
-use Rattle.laws.specs.answers.Fault.{told, orElse, firstFault, orNumber}
+use Rattle.laws.specs.answers.Fault.{plain, told, orElse, firstFault, orNumber}
 use Rattle.laws.proofs.FaultLaws.{or-first, or-second}
 use Rattle.laws.proofs.OrElseLaws.{told-or, told-first, told-second}
 use Rattle.tables.specs.facts.Board.{Board, nodeCount, propCount}
@@ -33,7 +33,7 @@ module _ (b : Board) where
       (told-or (nodeWordsFault (length (b .nodes))) three 0 rest
       ∙ ap (orElse (told (nodeWordsFault (length (b .nodes))) 0)) (told-or (propWordsFault (length (b .props))) four 0 rest))
 
-  pub shape-told : {v : ℕ} → v ≡ shapeFault → (v ≡ 0 → ⊥) → record { number = v; place = 0 } ≡ tableFault b
+  pub shape-told : {v : ℕ} → v ≡ shapeFault → (v ≡ 0 → ⊥) → plain v 0 ≡ tableFault b
   shape-told {v} e ne =
       told-first v 0 (orElse nodesFault propertiesFault) ne ∙ ap (λ (n : ℕ). orElse (told n 0) (orElse nodesFault propertiesFault)) e ∙ stages
 

@@ -2,5 +2,6 @@
 pub mod UniqueLaws
 pub mod SoundLaws
 pub mod RuleLaws
+pub mod SecondTables
 pub mod WellFormedLaws
 pub mod CodeStages

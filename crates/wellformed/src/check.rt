@@ -1,6 +1,7 @@
 // Rules 1 to 8 in the order of checking.
 use crate::sizes::size_fault;
 use laws::Fault;
+use laws::limits::NO_PROPERTY;
 use records::first_node_fault;
 use records::first_property_fault;
 ghost use mathlib.Core.Path.{_≡_};
@@ -13,7 +14,11 @@ pub fn table_fault(width: u32, nodes: &[u32], props: &[u32], pool: &[u8]) -> Fau
 {
     let number = size_fault(width, nodes.len(), props.len(), pool.len());
     if number != 0 {
-        return Fault { number, place: 0 };
+        return Fault {
+            number,
+            place: 0,
+            second: NO_PROPERTY,
+        };
     }
     let fault = first_node_fault(nodes, pool.len());
     if fault.number != 0 {

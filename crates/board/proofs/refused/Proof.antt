@@ -1,4 +1,4 @@
--- `refused` holds the number and the place, and nothing else. Assumes nothing.
+-- `refused` holds the fault, and nothing else. Assumes nothing.
 use mathlib.Core.Path.{refl}
 use Rattle.board.proofs.refused.Statement.{statement}
 use Rattle.board.proofs.refused.Tie as tie

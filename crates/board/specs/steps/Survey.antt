@@ -5,6 +5,7 @@ use mathlib.Core.List.{List}
 use Prim.Native.Nat.{ℕ}
 use lib.Dec.{eqb}
 use lib.ListN.{length}
+use Rattle.laws.specs.declared.Fault.{Fault}
 use Rattle.laws.specs.answers.Listed.{laidOver}
 use Rattle.tables.specs.facts.Board.{Board}
 use Rattle.cpus.specs.answers.Check.{cpuCount, cpuList, mpidrList}
@@ -13,13 +14,13 @@ use Rattle.board.specs.declared.Surveyed.{Surveyed}
 use Rattle.demands.specs.answers.Survey.{surveyFault}
 
 -- a refusal: every other result is 0
-abbrev pub stopped : ℕ → ℕ → Surveyed
-stopped number place = record { number = number; place = place; cpus = 0; leaves = 0 }
+abbrev pub stopped : Fault → Surveyed
+stopped f = record { fault = f; cpus = 0; leaves = 0 }
 
 unfoldable pub surveyOf : Board → Surveyed
 surveyOf b =
     let f = surveyFault b in
-    cond (eqb (f .number) 0) (record { number = 0; place = 0; cpus = cpuCount b; leaves = length (leavesOf b) }) (stopped (f .number) (f .place))
+    cond (eqb (f .number) 0) (record { fault = f; cpus = cpuCount b; leaves = length (leavesOf b) }) (stopped f)
 
 -- four lent arrays, before and after: each list over what its array held
 pub record Lists (b : Board) (cpus₀ mpidrs₀ leaves₀ named₀ cpus mpidrs leaves named : List ℕ) : Type 0 where

@@ -34,8 +34,8 @@ secondMapFault nodes pool i = cond (isMapName nodes pool i) (cond (eqb i (mapOf 
 unfoldable pub mapFault : List ℕ → List ℕ → Fault
 mapFault nodes pool = orElse (told (noMapFault nodes pool) 0) (firstFault (secondMapFault nodes pool) (nodeCount nodes))
 
--- the map's record, or the first of rules 15 and 16 that is broken
+-- the first of rules 15 and 16 that is broken, or the map's record
 unfoldable pub mapScan : List ℕ → List ℕ → MapScan
 mapScan nodes pool =
-    cond (eqb (mapFault nodes pool .number) 0) (record { number = 0; place = 0; map = mapOf nodes pool })
-    (record { number = mapFault nodes pool .number; place = mapFault nodes pool .place; map = 0 })
+    let f = mapFault nodes pool in
+    record { fault = f; map = cond (eqb (f .number) 0) (mapOf nodes pool) 0 }

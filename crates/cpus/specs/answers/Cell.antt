@@ -5,9 +5,9 @@ use Prim.Native.Nat.{ℕ, _+_, _*_, _^_}
 use lib.Dec.{eqb, leb}
 use lib.ListN.{length}
 use Rattle.affinity.specs.answers.Level.{isAffine}
+use Rattle.tables.specs.declared.Found.{Found}
 use Rattle.tables.specs.declared.Lookup.{Lookup}
 use Rattle.tables.specs.declared.Lookup.the-variants.{At, Missing}
-use Rattle.tables.specs.facts.Board.{valueOffset, valueLength}
 use Rattle.tables.specs.facts.Property.{cellAt}
 use Rattle.tables.specs.answers.Lookup.{lookup}
 use Rattle.cpus.specs.declared.Cells.{Cells}
@@ -20,9 +20,9 @@ abbrev pub sizeOf : Cells → ℕ
 sizeOf One = 4
 sizeOf Two = 8
 
--- whether property k's value lies inside the pool and has a length
-abbrev pub valueSized : List ℕ → List ℕ → ℕ → ℕ → Bool
-valueSized props pool len k = cond (eqb (valueLength props k) len) (leb (valueOffset props k + len) (length pool)) false
+-- whether the value of a property that was found lies inside the pool and has a length
+abbrev pub valueSized : List ℕ → ℕ → Found → Bool
+valueSized pool len found = cond (eqb (found .len) len) (leb (found .offset + len) (length pool)) false
 
 -- the number of the cells from `at` on: the only cell, or the upper and the lower
 abbrev pub cellsAt : List ℕ → Cells → ℕ → ℕ
@@ -30,16 +30,16 @@ cellsAt pool One at = cellAt pool at
 cellsAt pool Two at = cellAt pool at * 2 ^ 32 + cellAt pool (at + 4)
 
 -- the number that is the value of a property, if it was found and has so many cells
-abbrev pub valueIn : List ℕ → List ℕ → Cells → Lookup → Value
-valueIn props pool cells (At k) = cond (valueSized props pool (sizeOf cells) k) (Number (cellsAt pool cells (valueOffset props k))) Invalid
-valueIn props pool cells Missing = Invalid
+abbrev pub valueIn : List ℕ → Cells → Lookup → Value
+valueIn pool cells (At found) = cond (valueSized pool (sizeOf cells) found) (Number (cellsAt pool cells (found .offset))) Invalid
+valueIn pool cells Missing = Invalid
 
-abbrev pub cellIn : List ℕ → List ℕ → Lookup → Value
-cellIn props pool found = valueIn props pool One found
+abbrev pub cellIn : List ℕ → Lookup → Value
+cellIn pool found = valueIn pool One found
 
 -- the cell that is the value of record i's property `key`
 unfoldable pub cellOf : List ℕ → List ℕ → ℕ → List ℕ → Value
-cellOf props pool i key = cellIn props pool (lookup props pool i key)
+cellOf props pool i key = cellIn pool (lookup props pool i key)
 
 -- whether a value is a given number
 abbrev pub isNumber : Value → ℕ → Bool

@@ -1,4 +1,4 @@
--- What the checks of rules 9 to 13 and of rule 17 answer.
+-- What the checks of rules 9 to 13, 36 and 37, and of rule 17 answer.
 use mathlib.Core.Bool.{Bool, true, false, cond}
 use mathlib.Core.List.{List, map}
 use Prim.Native.Nat.{ℕ}
@@ -6,14 +6,16 @@ use lib.Dec.{ltb, eqb}
 use Rattle.laws.specs.declared.Fault.{Fault}
 use Rattle.laws.specs.answers.Search.{countBelow, listBelow}
 use Rattle.laws.specs.facts.Limits.{maxCpus}
-use Rattle.laws.specs.answers.Fault.{told, orElse}
+use Rattle.laws.specs.answers.Fault.{told, orElse, withSecond}
 use Rattle.tables.specs.facts.Binding.{cpusWord, cpuWord, cpuUnit, addressCellsKey, sizeCellsKey}
+use Rattle.tables.specs.answers.Lookup.{lookup, recordOf}
 use Rattle.tables.specs.answers.Range.{rangeIs}
 use Rattle.tables.specs.facts.Board.{Board, nodeCount, nameOffset, nameLength}
 use Rattle.tables.specs.answers.Tree.{isChild}
 use Rattle.cpus.specs.declared.Cells.the-variants.{One, Two}
 use Rattle.cpus.specs.declared.RootCells.{RootCells}
 use Rattle.cpus.specs.declared.RootCells.the-variants.{Are, Broken}
+use Rattle.cpus.specs.declared.RootReading.{RootReading}
 use Rattle.cpus.specs.declared.Value.{Value}
 use Rattle.cpus.specs.declared.Value.the-variants.{Number, Invalid}
 use Rattle.cpus.specs.declared.Cells.{Cells}
@@ -37,28 +39,39 @@ cellsFor width Invalid = Broken
 unfoldable pub addressCells : Board → RootCells
 addressCells b = cellsFor (b .width) (cellOf (b .props) (b .pool) 0 addressCellsKey)
 
--- the cells of the board's `reg`s, or Broken where rule 9 is broken
-unfoldable pub soundCells : Board → RootCells
-soundCells b =
-    cond (rangeIs (b .pool) (nameOffset (b .nodes) 0) (nameLength (b .nodes) 0) cpusWord)
-    (cond (isNumber (cellOf (b .props) (b .pool) 0 sizeCellsKey) 0) (addressCells b) Broken)
-    Broken
-
--- rule 9
-abbrev pub rootNumber : RootCells → ℕ
-rootNumber (Are cells) = 0
-rootNumber Broken = 9
-
-abbrev pub rootFault : Board → ℕ
-rootFault b = rootNumber (soundCells b)
-
--- the cells of a `reg`; one where rule 9 is broken: what is read by it is then not told
+-- the cells of the board's `reg`s; one where rule 36 is broken: what is read by it is then not told
 abbrev pub cellsOf : RootCells → Cells
 cellsOf (Are cells) = cells
 cellsOf Broken = One
 
 abbrev pub regCells : Board → Cells
-regCells b = cellsOf (soundCells b)
+regCells b = cellsOf (addressCells b)
+
+-- rules 9, 36 and 37, each its number or 0
+abbrev pub nameFault : Board → ℕ
+nameFault b = cond (rangeIs (b .pool) (nameOffset (b .nodes) 0) (nameLength (b .nodes) 0) cpusWord) 0 9
+
+abbrev pub addressFault : RootCells → ℕ
+addressFault (Are cells) = 0
+addressFault Broken = 36
+
+abbrev pub sizeFault : Value → ℕ
+sizeFault value = cond (isNumber value 0) 0 37
+
+-- what is told of record 0, of its property `key`
+abbrev pub toldOfRoot : Board → ℕ → List ℕ → Fault
+toldOfRoot b number key = withSecond (λ i. recordOf (lookup (b .props) (b .pool) i key)) (told number 0)
+
+-- the first of rules 9, 36 and 37 that is broken
+unfoldable pub rootFault : Board → Fault
+rootFault b =
+    orElse (told (nameFault b) 0)
+    (orElse (toldOfRoot b (addressFault (addressCells b)) addressCellsKey)
+    (toldOfRoot b (sizeFault (cellOf (b .props) (b .pool) 0 sizeCellsKey)) sizeCellsKey))
+
+-- what is read of record 0
+abbrev pub rootReading : Board → RootReading
+rootReading b = record { fault = rootFault b; cells = regCells b }
 
 abbrev pub cpuCount : Board → ℕ
 cpuCount b = countBelow (isCpu (b .nodes) (b .pool)) (nodeCount (b .nodes))
@@ -89,9 +102,9 @@ mpidrList b = map (mpidrAt b) (cpuList b)
 abbrev pub cpuFault : Board → Fault
 cpuFault b = firstRecord (mpidrReadings b) 13 (cpuList b)
 
--- the first of rules 9 to 13 that is broken
+-- the first of rules 9 to 13, 36 and 37 that is broken
 unfoldable pub cpusFault : Board → Fault
-cpusFault b = orElse (told (rootFault b) 0) (orElse (told (countFault (cpuCount b)) 0) (cpuFault b))
+cpusFault b = orElse (rootFault b) (orElse (told (countFault (cpuCount b)) 0) (cpuFault b))
 
 -- the first cpu record that breaks rule 17
 abbrev pub phandlesFault : Board → Fault

@@ -4,12 +4,13 @@ use mathlib.Core.List.{List, map}
 use Prim.Native.Nat.{ℕ}
 use lib.Dec.{eqb}
 use lib.ListN.{length, getD, take}
+use Rattle.laws.specs.facts.Limits.{noProperty}
 use Rattle.laws.specs.declared.Fault.{Fault}
 use Rattle.laws.specs.answers.Search.{isAmong}
 use Rattle.laws.specs.answers.Listed.{laidOver, faultOfMember, membersPassed}
-use Rattle.laws.specs.answers.Fault.{firstFault}
+use Rattle.laws.specs.answers.Fault.{firstFault, withSecond}
 use Rattle.tables.specs.declared.Lookup.{Lookup}
-use Rattle.tables.specs.answers.Lookup.{lookup}
+use Rattle.tables.specs.answers.Lookup.{lookup, recordOf}
 use Rattle.property_index.specs.declared.Key.{Key}
 use Rattle.property_index.specs.declared.Key.the-variants.{Reg, Phandle, DeviceType}
 use Rattle.property_index.specs.answers.Index.{indexedAt}
@@ -21,26 +22,29 @@ use Rattle.cpus.specs.declared.CpuNumbers.{CpuNumbers}
 use Rattle.cpus.specs.answers.Cell.{valueIn, cellIn, isNumber, affineOnly, phandleIn, cpuCell}
 use Rattle.cpus.specs.declared.CpuNumbers.the-variants as wanted
 
-abbrev pub cpuReading : ℕ → ℕ → CpuReading
-cpuReading number value = record { number = number; value = value }
+abbrev pub cpuReading : (number second value : ℕ) → CpuReading
+cpuReading number second value = record { number = number; second = second; value = value }
 
--- a value's number, or the rule that is broken where it is not there
-abbrev pub numberOr : ℕ → Value → CpuReading
-numberOr rule (Number n) = cpuReading 0 n
-numberOr rule Invalid = cpuReading rule 0
+-- a value's number, and the second place of its repeat; or the rule that is broken where it is not there, told of a property
+abbrev pub numberOr : ℕ → Lookup → ℕ → Value → CpuReading
+numberOr rule found repeated (Number n) = cpuReading 0 repeated n
+numberOr rule found repeated Invalid = cpuReading rule (recordOf found) 0
 
--- what a cpu record alone breaks, 0 where nothing, and its number, from where its properties stand
-unfoldable pub readingFrom : CpuNumbers → List ℕ → List ℕ → (Key → Lookup) → CpuReading
-readingFrom (wanted.Mpidrs cells) props pool at =
-    cond (isNumber (cellIn props pool (at DeviceType)) cpuCell) (numberOr 12 (affineOnly (valueIn props pool cells (at Reg)))) (numberOr 11 Invalid)
-readingFrom wanted.Phandles props pool at = numberOr 17 (phandleIn (cellIn props pool (at Phandle)))
+-- What a cpu record alone breaks, 0 where nothing, the second place of what is told of it, and its number, from where its properties stand.
+-- A repeated MPIDR is told of no property, a repeated phandle of the `phandle`.
+unfoldable pub readingFrom : CpuNumbers → List ℕ → (Key → Lookup) → CpuReading
+readingFrom (wanted.Mpidrs cells) pool at =
+    cond (isNumber (cellIn pool (at DeviceType)) cpuCell)
+    (numberOr 12 (at Reg) noProperty (affineOnly (valueIn pool cells (at Reg))))
+    (cpuReading 11 (recordOf (at DeviceType)) 0)
+readingFrom wanted.Phandles pool at = numberOr 17 (at Phandle) (recordOf (at Phandle)) (phandleIn (cellIn pool (at Phandle)))
 
 -- record i, by an index of properties; and looked up in the property table
 abbrev pub readingAt : CpuNumbers → List ℕ → List ℕ → List ℕ → ℕ → CpuReading
-readingAt w props pool index i = readingFrom w props pool (indexedAt index i)
+readingAt w props pool index i = readingFrom w pool (indexedAt props index i)
 
 unfoldable pub readingOf : CpuNumbers → List ℕ → List ℕ → ℕ → CpuReading
-readingOf w props pool i = readingFrom w props pool (λ key. lookup props pool i (keyName key))
+readingOf w props pool i = readingFrom w pool (λ key. lookup props pool i (keyName key))
 
 -- the rule that a repeated number breaks
 abbrev pub repeatRule : CpuNumbers → ℕ
@@ -49,7 +53,7 @@ repeatRule wanted.Phandles = 17
 
 -- a reading, refused where its number was seen
 abbrev pub unlessSeen : ℕ → Bool → CpuReading → CpuReading
-unlessSeen rule seen r = cond (eqb (r .number) 0) (cond seen (cpuReading rule (r .value)) r) r
+unlessSeen rule seen r = cond (eqb (r .number) 0) (cond seen (cpuReading rule (r .second) (r .value)) r) r
 
 -- the records of a list, each with a reading
 module _ (r : ℕ → CpuReading) (rule : ℕ) (records : List ℕ) where
@@ -59,12 +63,12 @@ module _ (r : ℕ → CpuReading) (rule : ℕ) (records : List ℕ) where
       let q = r (getD records k 0) in
       unlessSeen rule (isAmong (map (λ i. r i .value) (take k records)) (q .value)) q .number
 
-  -- the first index at which a rule is broken, and the same told of the record
+  -- the first index at which a rule is broken, and the same told of the record, with its second place
   abbrev pub firstIndex : Fault
   firstIndex = firstFault listedFault (length records)
 
   unfoldable pub firstRecord : Fault
-  firstRecord = faultOfMember records firstIndex
+  firstRecord = withSecond (λ i. r i .second) (faultOfMember records firstIndex)
 
   -- a buffer after the gathering: the numbers of the records passed, over what it held
   unfoldable pub numbersOver : List ℕ → List ℕ

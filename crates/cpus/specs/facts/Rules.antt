@@ -1,4 +1,4 @@
--- Rules 9 to 13, and rule 17, as facts: each constructor is a way to break a rule of that number at that place.
+-- Rules 9 to 13, 36 and 37, and rule 17, as facts: each constructor is a way to break a rule of that number at that place.
 use mathlib.Core.Path.{_≡_}
 use mathlib.Core.List.{List}
 use Prim.Native.Nat.{ℕ, _<_}
@@ -12,15 +12,21 @@ use Rattle.cpus.specs.facts.Node.{Cpu, AddressCells, SizeCells, Reg, Pha
 
 pub data CpuRule (b : Board) : ℕ → ℕ → Type 0 where
   cpusNodeName : (nodeName b 0 ≡ cpusWord → ⊥) → CpuRule b 9 0
-  cpusNodeAddressCells : ((n : ℕ) → AddressCells b n → ⊥) → CpuRule b 9 0
-  cpusNodeSizeCells : (SizeCells b → ⊥) → CpuRule b 9 0
+  cpusAddressCells : ((n : ℕ) → AddressCells b n → ⊥) → CpuRule b 36 0
+  cpusSizeCells : (SizeCells b → ⊥) → CpuRule b 37 0
   cpuCountNone : ((i : ℕ) → Cpu b i → ⊥) → CpuRule b 10 0
   cpuCountMany : (cpus : List ℕ) → Listing (Cpu b) cpus → maxCpus < length cpus → CpuRule b 10 0
   cpuDeviceType : (i : ℕ) → Cpu b i → (HasValue b i deviceTypeKey cpuString → ⊥) → CpuRule b 11 i
   cpuReg : (i : ℕ) → Cpu b i → ((upper lower : ℕ) → Reg b i upper lower → ⊥) → CpuRule b 12 i
   duplicateCpuReg : (i j : ℕ) (value : List ℕ) → Cpu b i → Cpu b j → j < i → HasValue b i regKey value → HasValue b j regKey value → CpuRule b 13 i
 
--- sound cpu nodes: none of rules 9 to 13 is broken
+-- 01's rule 9, which 02 (W3) splits in three
+pub data CpusNode (b : Board) : Type 0 where
+  name : (nodeName b 0 ≡ cpusWord → ⊥) → CpusNode b
+  addressCells : ((n : ℕ) → AddressCells b n → ⊥) → CpusNode b
+  sizeCells : (SizeCells b → ⊥) → CpusNode b
+
+-- sound cpu nodes: none of rules 9 to 13, 36 and 37 is broken
 abbrev pub SoundCpus : Board → Type 0
 SoundCpus b = (n p : ℕ) → CpuRule b n p → ⊥
 

@@ -4,6 +4,7 @@ use mathlib.Core.List.{List}
 use Prim.Native.Nat.{ℕ, _*_}
 use lib.Dec.{ltb, eqb}
 use lib.ListN.{length}
+use Rattle.laws.specs.facts.Limits.{noProperty}
 use Rattle.laws.specs.declared.Fault.{Fault}
 use Rattle.laws.specs.answers.Fault.{told, orElse}
 use Rattle.layout.specs.facts.Row.{rowSize}
@@ -19,18 +20,18 @@ use Rattle.demands.specs.answers.Survey.{surveyFault}
 abbrev pub roomFault : ℕ → ℕ → ℕ
 roomFault room cpus = cond (ltb room (rowSize * cpus)) 27 0
 
--- the first of rules 1 to 27 that is broken
+-- the first of rules 1 to 27, 36 and 37 that is broken
 unfoldable pub boardFault : Board → ℕ → Fault
 boardFault b room = orElse (surveyFault b) (told (roomFault room (cpuCount b)) 0)
 
 -- a refusal: every other result is 0
-abbrev pub refusedWith : ℕ → ℕ → BoardAnswer
-refusedWith number place = record { number = number; place = place; count = 0; hash = noHash }
+abbrev pub refusedWith : Fault → BoardAnswer
+refusedWith f = record { number = f .number; place = f .place; second = f .second; count = 0; hash = noHash }
 
 -- what is answered where a fault is told, or where none is: how many cpu records there are, and the hash of their MPIDRs
 abbrev pub answerBy : Fault → ℕ → List ℕ → BoardAnswer
 answerBy f count mpidrs =
-    cond (eqb (f .number) 0) (record { number = 0; place = 0; count = count; hash = hashOf mpidrs }) (refusedWith (f .number) (f .place))
+    cond (eqb (f .number) 0) (record { number = 0; place = 0; second = noProperty; count = count; hash = hashOf mpidrs }) (refusedWith f)
 
 -- the row buffer afterwards: with the rows where no fault is told
 abbrev pub rowsBy : Fault → Source → List ℕ → List ℕ

@@ -1,4 +1,4 @@
--- The first of rules 1 to 26 that is broken.
+-- The first of rules 1 to 26, 36 and 37 that is broken.
 use Rattle.laws.specs.declared.Fault.{Fault}
 use Rattle.laws.specs.answers.Fault.{orElse}
 use Rattle.tables.specs.facts.Board.{Board}
@@ -7,7 +7,7 @@ use Rattle.cpus.specs.answers.Check.{cpuList, cpusFault, phandlesFault}
 use Rattle.cpumap.specs.answers.Find.{mapFault}
 use Rattle.leaves.specs.answers.Scan.{leavesFault, treeOf}
 
--- the first of rules 1 to 26 that is broken
+-- the first of them that is broken
 unfoldable pub surveyFault : Board → Fault
 surveyFault b =
     orElse (tableFault b)

@@ -1,21 +1,23 @@
 -- What holds of the answer and of the row buffer: demand 1 of every board, demand 3 of every board with well-formed tables, sound cpu nodes and room.
 use mathlib.Core.List.{List}
 use mathlib.Core.Path.{_≡_}
-use mathlib.Core.Logic.{_↔_}
+use mathlib.Core.Logic.{_⊎_, _↔_}
 use Prim.Native.Nat.{ℕ, _*_, _^_, _<_}
 use lib.ListN.{take, length, drop}
+use Rattle.laws.specs.facts.Limits.{noProperty}
 use Rattle.laws.specs.facts.Listing.{Listing}
 use Rattle.layout.specs.facts.Row.{rowSize, rowSlot, rowAt}
 use Rattle.affinity.specs.facts.List.{noHash}
 use Rattle.affinity.specs.facts.Hash.{IsHash}
 use Rattle.tables.specs.facts.Board.{Board}
+use Rattle.tables.specs.facts.Second.{Second}
 use Rattle.wellformed.specs.facts.Rules.{WellFormed}
 use Rattle.cpus.specs.facts.Node.{Cpu}
-use Rattle.cpus.specs.facts.Rules.{SoundCpus}
+use Rattle.cpus.specs.facts.Rules.{CpuRule, CpusNode, SoundCpus}
 use Rattle.cpumap.specs.facts.Map.{Map}
 use Rattle.rows.specs.facts.Fits.{Mpidrs, Fits}
 use Rattle.demands.specs.declared.BoardAnswer.{BoardAnswer}
-use Rattle.demands.specs.facts.Rules.{Breaks, Told, MapBroken, Room}
+use Rattle.demands.specs.facts.Rules.{Breaks, BreaksUnsplit, Told, MapBroken, Room}
 
 -- the rows that a buffer holds, and the slot word of row k
 abbrev pub rowsIn : BoardAnswer → List ℕ → List ℕ
@@ -24,9 +26,10 @@ rowsIn answer buffer = take (rowSize * answer .count) buffer
 abbrev pub slotAt : List ℕ → ℕ → ℕ
 slotAt buffer k = rowSlot (rowAt buffer k)
 
--- a refusal: the broken rule that 01's order tells; every other result 0; the buffer as it was
+-- a refusal: the broken rule that 01's order tells; its second place, which no other is; every other result 0; the buffer as it was
 pub record Refused (b : Board) (before : List ℕ) (answer : BoardAnswer) (after : List ℕ) : Type 0 where
   pub first : Told b (length before) (answer .number) (answer .place)
+  pub second : (s : ℕ) → Second b (answer .number) (answer .place) s ↔ (s ≡ answer .second)
   pub count : answer .count ≡ 0
   pub hash : answer .hash ≡ noHash
   pub buffer : after ≡ before
@@ -34,6 +37,7 @@ pub record Refused (b : Board) (before : List ℕ) (answer : BoardAnswer) (after
 -- an acceptance: rows that fit the map and no others do, the words behind them as they were, the count, the hash, and the slots
 pub record Accepted (b : Board) (before : List ℕ) (answer : BoardAnswer) (after : List ℕ) : Type 0 where
   pub place : answer .place ≡ 0
+  pub second : answer .second ≡ noProperty
   pub fits : Fits b (rowsIn answer after)
   pub only : (rows : List ℕ) → Fits b rows → rows ≡ rowsIn answer after
   pub rest : drop (rowSize * answer .count) after ≡ drop (rowSize * answer .count) before
@@ -49,9 +53,16 @@ pub record Reading (b : Board) (before : List ℕ) (answer : BoardAnswer) (after
   pub refused : (answer .number ≡ 0 → ⊥) → Refused b before answer after
   pub accepted : answer .number ≡ 0 → Accepted b before answer after
 
+-- the split of 01's rule 9 (02, W3): it is broken exactly where 9, 36 or 37 is, and no board changes between accepted and refused
+pub record Unchanged (b : Board) (room : ℕ) (answer : BoardAnswer) : Type 0 where
+  pub nine : CpusNode b ↔ (CpuRule b 9 0 ⊎ (CpuRule b 36 0 ⊎ CpuRule b 37 0))
+  pub accepted : (answer .number ≡ 0) ↔ ((n p : ℕ) → BreaksUnsplit b room n p → ⊥)
+
 pub record Demands (b : Board) (before : List ℕ) (answer : BoardAnswer) (after : List ℕ) : Type 0 where
   -- demand 1, of every input: a refusal tells the first broken rule, and an acceptance that none is broken
   pub refused : (answer .number ≡ 0 → ⊥) → Refused b before answer after
   pub sound : answer .number ≡ 0 → (n p : ℕ) → Breaks b (length before) n p → ⊥
+  -- 02, W3, of every input
+  pub unchanged : Unchanged b (length before) answer
   -- demand 3
   pub reading : WellFormed b → SoundCpus b → Room b (length before) → Reading b before answer after

@@ -1,5 +1,6 @@
--- All rules of 01's table, 1 to 27: the number and the place of each broken one.
+-- All rules of 01's table, 1 to 27, and 02's 36 and 37: the number and the place of each broken one.
 use mathlib.Core.List.{List}
+use mathlib.Core.Path.{_≡_}
 use Prim.Native.Nat.{ℕ, _*_, _<_}
 use lib.ListN.{length}
 use Rattle.laws.specs.facts.Listing.{Listing}
@@ -9,7 +10,7 @@ use Rattle.tables.specs.facts.Board.{Board}
 use Rattle.wellformed.specs.facts.Rules.{TableRule}
 use Rattle.wellformed.specs.facts.Order.{stages, stage}
 use Rattle.cpus.specs.facts.Node.{Cpu}
-use Rattle.cpus.specs.facts.Rules.{CpuRule, PhandleRule}
+use Rattle.cpus.specs.facts.Rules.{CpuRule, CpusNode, PhandleRule}
 use Rattle.cpumap.specs.facts.Rules.{MapRule}
 use Rattle.topology.specs.facts.Rules.{TopologyRule}
 use Rattle.leaves.specs.facts.Rules.{LeafRule}
@@ -28,6 +29,11 @@ pub data Breaks (b : Board) (room : ℕ) : ℕ → ℕ → Type 0 where
 pub record Told (b : Board) (room n p : ℕ) : Type 0 where
   pub first : First stage (Breaks b room) n p
   pub staged : stage n < length stages
+
+-- 01's rules before 02 (W3) split number 9: rule 9 as it stood, and all others
+pub data BreaksUnsplit (b : Board) (room : ℕ) : ℕ → ℕ → Type 0 where
+  cpusNode : CpusNode b → BreaksUnsplit b room 9 0
+  other : {n p : ℕ} → Breaks b room n p → (n ≡ 9 → ⊥) → (n ≡ 36 → ⊥) → (n ≡ 37 → ⊥) → BreaksUnsplit b room n p
 
 -- a map rule is broken, one of 15 to 26: of the map, of the phandles that its leaves name, of its topology, or of its leaves
 pub data MapBroken (b : Board) : Type 0 where

@@ -7,13 +7,13 @@ use lib.Dec.{ltb}
 use Rattle.affinity.specs.declared.Hash.{Hash}
 
 abbrev pub answerSize : ℕ
-answerSize = 10
+answerSize = 11
 
--- number, place, a third word (count or slot), mask low, mask high, four shifts, bits
-unfoldable pub answerWords : ℕ → ℕ → ℕ → Hash → List ℕ
-answerWords number place third h =
+-- number, place, a third word (count or slot), mask low, mask high, four shifts, bits, second place
+unfoldable pub answerWords : (number place second third : ℕ) → Hash → List ℕ
+answerWords number place second third h =
     number ∷ place ∷ third ∷ h .mask % 2 ^ 32 ∷ h .mask / 2 ^ 32
-    ∷ getD (h .shifts) 0 0 ∷ getD (h .shifts) 1 0 ∷ getD (h .shifts) 2 0 ∷ getD (h .shifts) 3 0 ∷ h .bits ∷ []
+    ∷ getD (h .shifts) 0 0 ∷ getD (h .shifts) 1 0 ∷ getD (h .shifts) 2 0 ∷ getD (h .shifts) 3 0 ∷ h .bits ∷ second ∷ []
 
 -- what a call leaves: what was there where its answer has fewer words than the call writes
 abbrev pub unlessShort : {A : Type 0} → ℕ → List ℕ → A → A → A
@@ -27,7 +27,7 @@ orShortOf size answer number = unlessShort size answer 49 number
 abbrev pub answerAfterOf : ℕ → List ℕ → List ℕ → List ℕ
 answerAfterOf size answer words = unlessShort size answer answer (words ++ drop size answer)
 
--- the same for an answer of ten words
+-- the same for an answer of eleven words
 abbrev pub orShort : List ℕ → ℕ → ℕ
 orShort = orShortOf answerSize
 

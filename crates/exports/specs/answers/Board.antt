@@ -7,7 +7,7 @@ use Rattle.demands.specs.answers.Answer.{rowsAfter}
 use Rattle.exports.specs.answers.Answer.{answerSize, answerWords, unlessShort}
 
 abbrev pub boardWords : BoardAnswer → List ℕ
-boardWords a = answerWords (a .number) (a .place) (a .count) (a .hash)
+boardWords a = answerWords (a .number) (a .place) (a .second) (a .count) (a .hash)
 
 -- the rows after the call: unchanged where the answer is too short
 abbrev pub rowsBehind : List ℕ → Board → List ℕ → List ℕ

@@ -24,6 +24,10 @@ maxPropertyName = 31
 abbrev pub noParent : ℕ
 noParent = 0xFFFFFFFF
 
+-- the second place where no property is told of
+abbrev pub noProperty : ℕ
+noProperty = 0xFFFFFFFF
+
 -- the most cpu records of a board, and MPIDRs of a list
 abbrev pub maxCpus : ℕ
 maxCpus = 256

@@ -6,11 +6,10 @@ use Prim.Native.Nat.{ℕ}
 use lib.Dec.{eqb}
 use lib.ListN.{getD, length}
 use Rattle.laws.specs.facts.Limits.{maxCpus}
-use Rattle.laws.specs.answers.Fault.{firstFault, orNumber}
-use Rattle.tables.specs.facts.Board.{nodeCount}
+use Rattle.laws.specs.answers.Fault.{orNumber}
 use Rattle.leaves.specs.declared.RecordCheck.{RecordCheck}
 use Rattle.leaves.specs.declared.TreeScan.{TreeScan}
-use Rattle.leaves.specs.answers.Scan.{Tree, namedBelow, treeFault, scanned, passed, leavesOver, namedOver}
+use Rattle.leaves.specs.answers.Scan.{Tree, namedBelow, recordFault, scanned, passed, leavesOver, namedOver}
 
 -- whether a table of marks has cpu k marked
 abbrev pub isMarked : List ℕ → ℕ → Bool
@@ -33,7 +32,7 @@ checkedFault marks r = orNumber (r .number) (cond (r .leaf) (cond (isMarked mark
 
 -- how many leaves there are, or the first of rules 18 to 25 that is broken
 unfoldable pub leafScan : Tree → TreeScan
-leafScan t = scanned t (firstFault (treeFault t) (nodeCount (t .nodes)))
+leafScan t = scanned t (recordFault t)
 
 -- rule 26 of the cpu with index k: it is not marked
 unfoldable pub unmarkedFault : List ℕ → ℕ → ℕ

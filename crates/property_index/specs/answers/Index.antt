@@ -8,6 +8,7 @@ use Rattle.laws.specs.facts.Limits.{maxNodes, maxProperties}
 use Rattle.tables.specs.declared.Lookup.{Lookup}
 use Rattle.tables.specs.declared.Lookup.the-variants.{At, Missing}
 use Rattle.tables.specs.facts.Binding.{regKey, cpuKey, phandleKey, deviceTypeKey}
+use Rattle.tables.specs.answers.Lookup.{foundAt}
 use Rattle.tables.specs.answers.Range.{rangeIs}
 use Rattle.tables.specs.facts.Board.{propCount, propNode, keyOffset, keyLength}
 use Rattle.property_index.specs.declared.Key.{Key}
@@ -40,10 +41,10 @@ abbrev pub indexed : List ℕ → List ℕ → List ℕ → List ℕ
 indexed table props pool = indexedBelow table props pool (min (propCount props) maxProperties)
 
 -- a word of the table as the answer of a lookup
-abbrev pub lookupIn : ℕ → Lookup
-lookupIn zero = Missing
-lookupIn (suc k) = At k
+abbrev pub lookupIn : List ℕ → ℕ → Lookup
+lookupIn props zero = Missing
+lookupIn props (suc k) = At (foundAt props k)
 
--- where the property that is a key of record i stands, by an index of properties
-unfoldable pub indexedAt : List ℕ → ℕ → Key → Lookup
-indexedAt table i key = lookupIn (getD table (4 * i + keyNumber key) 0)
+-- the property that is a key of record i, by an index of properties
+unfoldable pub indexedAt : (props table : List ℕ) → ℕ → Key → Lookup
+indexedAt props table i key = lookupIn props (getD table (4 * i + keyNumber key) 0)

@@ -1,4 +1,5 @@
--- The order in which broken rules are told (01, "Numbers told, in order of checking"): by stage, then place, then number.
+-- The order in which broken rules are told (01, "Numbers told, in order of checking"; 36 and 37 behind 9: 02, W3): by stage, then place,
+-- then number.
 use mathlib.Core.List.{List, [], _∷_}
 use Prim.Native.Nat.{ℕ}
 use Rattle.laws.specs.facts.First.{stageIn}
@@ -13,6 +14,8 @@ stages =
     ∷ (5 ∷ 6 ∷ [])
     ∷ (7 ∷ 8 ∷ [])
     ∷ (9 ∷ [])
+    ∷ (36 ∷ [])
+    ∷ (37 ∷ [])
     ∷ (10 ∷ [])
     ∷ (11 ∷ 12 ∷ 13 ∷ [])
     ∷ (15 ∷ [])

@@ -1,7 +1,7 @@
--- `survey` stops at the first fault of rules 1 to 26, and leaves its lists where there is none. Assumes nothing.
+-- `survey` stops at the first fault of rules 1 to 26, 36 and 37, and leaves its lists where there is none. Assumes nothing.
 use mathlib.Core.Path.{_≡_, refl, sym, ap, ap₂, _∙_}
-use mathlib.Core.List.{List, map}
-use Prim.Native.Nat.{ℕ, zero, suc, _≤_}
+use mathlib.Core.List.{List}
+use Prim.Native.Nat.{ℕ, _≤_}
 use native.Mathlib.Omega.{arith}
 use lib.ListN.{length, take, replicate, length-map, length-replicate}
 use lib.Seq.{take-all}
@@ -9,7 +9,7 @@ use borrow.Author.Tests.{eq-eqb}
 use Rattle.laws.specs.declared.Fault.{Fault}
 use Rattle.laws.specs.answers.Fault.{told}
 use Rattle.laws.specs.answers.Listed.{laidOver}
-use Rattle.laws.proofs.FaultLaws.{or-second}
+use Rattle.laws.proofs.FaultLaws.{told-at, or-second}
 use Rattle.laws.proofs.OrElseLaws.{told-number}
 use Rattle.laws.proofs.OverLaws.{over-length}
 use Rattle.tables.specs.facts.Board.{Board, board}
@@ -17,19 +17,19 @@ use Rattle.wellformed.specs.facts.Rules.{WellFormed}
 use Rattle.wellformed.specs.answers.Check.{tableFault}
 use Rattle.wellformed.proofs.RuleLaws.{table-sound}
 use Rattle.laws.specs.facts.Limits.{maxCpus}
-use Rattle.cpus.specs.answers.Check.{rootNumber, rootFault, cellsOf, regCells, cpuCount, cpuList, countFault, cpuFault, phandlesFault, phandleList}
+use Rattle.cpus.specs.answers.Check.{rootFault, regCells, cpuCount, cpuList, countFault, cpuFault, phandlesFault, phandleList}
 use Rattle.cpus.specs.answers.Check.{mpidrList}
-use Rattle.cpus.specs.declared.RootCells.{RootCells}
+use Rattle.cpus.specs.declared.RootReading.{RootReading}
 use Rattle.cpus.specs.declared.CpuNumbers.the-variants.{Mpidrs, Phandles}
 use Rattle.cpus.proofs.CpuMeans.{cpu-count, count-fits}
 use Rattle.cpumap.specs.declared.MapScan.{MapScan}
 use Rattle.leaves.specs.declared.TreeScan.{TreeScan}
-use Rattle.cpumap.specs.answers.Find.{mapOf}
+use Rattle.cpumap.specs.answers.Find.{mapOf, mapScan}
 use Rattle.leaves.specs.answers.Scan.{Tree, lentTree, leavesFault, treeScan, leavesOver, namedOver, treeOf, leavesOf, namedOf}
 use Rattle.leaves.proofs.ScanLaws.{leaves-listed, named-listed}
 use Rattle.demands.specs.answers.Survey.{surveyFault}
 use Rattle.board.proofs.FrontLaws.{front-fits, front-size, front-is}
-use Rattle.board.proofs.ReadLaws.{map-number, map-place, map-root}
+use Rattle.board.proofs.ReadLaws.{map-root}
 use Rattle.board.proofs.SurveyLaws.{counted-all, listed-all, mapStage, fromPhandles, fromMap, fromCpus, fromCount, fromRoot}
 use Rattle.board.proofs.SurveyLaws.{survey-stages, tells, tells-first, clears, numbers-stage, numbers-found, tree-is}
 use borrow.Author.Needs.{needs}
@@ -43,13 +43,13 @@ b1 c = let a = c .before .before .before .before .args in board (a .width) (a .n
 abbrev b2 : tie.Else1 → Board
 b2 c = b1 (c .before .before)
 
-abbrev b3 : tie.After-known-told → Board
-b3 c = b2 (c .before .before .before .before)
+abbrev b3 : tie.Else2 → Board
+b3 c = b2 (c .before .before .before)
 
 abbrev b4 : tie.After-count-fault → Board
 b4 c = b3 (c .before .before .before)
 
-abbrev at-count : tie.After-read-numbers → tie.Else2
+abbrev at-count : tie.After-read-numbers → tie.Else3
 at-count c = c .before .before .before .before .before .before .before .before
 
 abbrev b5 : tie.After-read-numbers → Board
@@ -65,7 +65,7 @@ abbrev b8 : tie.After-read-tree → Board
 b8 c = b7 (c .before .before .before .before .before .before .before .before)
 
 abbrev start : tie.After-count-fault → tie.Start
-start c = c .before .before .before .before .before .before .before .before .before .before .before .before .before
+start c = c .before .before .before .before .before .before .before .before .before .before .before .before
 
 -- rules 1 to 8
 clear-tables : (c : tie.Else1) → tableFault (b2 c) .number ≡ 0
@@ -77,19 +77,22 @@ well c = table-sound (b2 c) (clear-tables c)
 rest-1 : (c : tie.Else1) → surveyFault (b2 c) ≡ fromRoot (b2 c)
 rest-1 c = survey-stages (b2 c) ∙ or-second (tableFault (b2 c)) _ (clear-tables c)
 
--- rule 9
-sound-root : (c : tie.After-known-told) → rootFault (b3 c) ≡ 0
-sound-root c = ap rootNumber (sym (c .before .before .before .read-cells .ensures) ∙ c .before .cells .given .1)
+-- rules 9, 36 and 37
+root-fault : (c : tie.After-read-root) → c .read-root .result .fault ≡ rootFault (b2 (c .before))
+root-fault c = ap (λ (r : RootReading). r .fault) (c .read-root .ensures)
 
-cells-are : (c : tie.After-known-told) → Mpidrs (c .before .cells .given .0 .0) ≡ Mpidrs (regCells (b3 c))
-cells-are c = ap (λ (r : RootCells). Mpidrs (cellsOf r)) (sym (c .before .cells .given .1) ∙ c .before .before .before .read-cells .ensures)
+clear-root : (c : tie.Else2) → rootFault (b3 c) .number ≡ 0
+clear-root c = ap (λ (f : Fault). f .number) (sym (root-fault (c .before .before))) ∙ c .if2 .left
 
-rest-2 : (c : tie.After-known-told) → surveyFault (b3 c) ≡ fromCount (b3 c)
-rest-2 c = rest-1 (c .before .before .before .before) ∙ or-second (told (rootFault (b3 c)) 0) _ (told-number _ 0 ∙ sound-root c)
+cells-are : (c : tie.Else2) → Mpidrs (c .before .before .read-root .result .cells) ≡ Mpidrs (regCells (b3 c))
+cells-are c = ap (λ (r : RootReading). Mpidrs (r .cells)) (c .before .before .read-root .ensures)
+
+rest-2 : (c : tie.Else2) → surveyFault (b3 c) ≡ fromCount (b3 c)
+rest-2 c = rest-1 (c .before .before .before) ∙ or-second (rootFault (b3 c)) _ (clear-root c)
 
 -- rule 10
 well-4 : (c : tie.After-count-fault) → WellFormed (b4 c)
-well-4 c = well (c .before .before .before .before .before .before .before)
+well-4 c = well (c .before .before .before .before .before .before)
 
 as-many-cpus : (c : tie.After-count-fault) → c .before .list-cpus .result ≡ cpuCount (b4 c)
 as-many-cpus c = c .before .list-cpus .ensures .0 ∙ counted-all (b4 c) (well-4 c)
@@ -100,19 +103,19 @@ cpus-laid c = c .before .list-cpus .ensures .1 ∙ listed-all (b4 c) (well-4 c) 
 counted : (c : tie.After-count-fault) → c .count-fault .result ≡ countFault (cpuCount (b4 c))
 counted c = c .count-fault .ensures ∙ ap countFault (as-many-cpus c)
 
-rest-3 : (c : tie.Else2) → surveyFault (b4 (c .before)) ≡ fromCpus (b4 (c .before))
+rest-3 : (c : tie.Else3) → surveyFault (b4 (c .before)) ≡ fromCpus (b4 (c .before))
 rest-3 c =
     let b = b4 (c .before) in
     rest-2 (c .before .before .before .before)
-    ∙ or-second (told (countFault (cpuCount b)) 0) _ (told-number _ 0 ∙ sym (counted (c .before)) ∙ c .if2 .left)
+    ∙ or-second (told (countFault (cpuCount b)) 0) _ (told-number _ 0 ∙ sym (counted (c .before)) ∙ c .if3 .left)
 
-few : (c : tie.Else2) → cpuCount (b4 (c .before)) ≤ maxCpus
-few c = count-fits (cpuCount (b4 (c .before))) (sym (counted (c .before)) ∙ c .if2 .left)
+few : (c : tie.Else3) → cpuCount (b4 (c .before)) ≤ maxCpus
+few c = count-fits (cpuCount (b4 (c .before))) (sym (counted (c .before)) ∙ c .if3 .left)
 
-listed-few : (c : tie.Else2) → length (cpuList (b4 (c .before))) ≤ maxCpus
+listed-few : (c : tie.Else3) → length (cpuList (b4 (c .before))) ≤ maxCpus
 listed-few c = omega (arith, few c, cpu-count (b4 (c .before)))
 
-count-is : (c : tie.Else2) → c .before .before .list-cpus .result ≡ length (cpuList (b4 (c .before)))
+count-is : (c : tie.Else3) → c .before .before .list-cpus .result ≡ length (cpuList (b4 (c .before)))
 count-is c = as-many-cpus (c .before) ∙ cpu-count (b4 (c .before))
 
 -- the cpu records, as the lent array has them
@@ -154,7 +157,7 @@ module _ (c : tie.After-read-numbers) where
   well-5 : WellFormed (b5 c)
   well-5 = well-4 (at-count c .before)
 
-  abbrev kept-9 : tie.After-known-told
+  abbrev kept-9 : tie.Else2
   kept-9 = at-count c .before .before .before .before
 
   abbrev mpidrs : List ℕ
@@ -169,20 +172,21 @@ module _ (c : tie.After-read-numbers) where
   mpidrs-laid : cpuFault (b5 c) .number ≡ 0 → c .read-numbers .last .1 .1 .1 .1 .1 .0 ≡ laidOver (mpidrList (b5 c)) mpidrs
   mpidrs-laid z = c .read-numbers .ensures .1 ∙ numbers-found (b5 c) well-5 (indexed .index-properties .ensures) cpus-listed (cells-are kept-9) 13 _ z
 
-clear-mpidrs : (c : tie.Else3) → cpuFault (b5 (c .before .before)) .number ≡ 0
-clear-mpidrs c = ap (λ (f : Fault). f .number) (sym (mpidr-fault (c .before .before))) ∙ c .if3 .left
+clear-mpidrs : (c : tie.Else4) → cpuFault (b5 (c .before .before)) .number ≡ 0
+clear-mpidrs c = ap (λ (f : Fault). f .number) (sym (mpidr-fault (c .before .before))) ∙ c .if4 .left
 
-rest-4 : (c : tie.Else3) → surveyFault (b5 (c .before .before)) ≡ fromMap (b5 (c .before .before))
+rest-4 : (c : tie.Else4) → surveyFault (b5 (c .before .before)) ≡ fromMap (b5 (c .before .before))
 rest-4 c = rest-3 (at-count (c .before .before)) ∙ or-second (cpuFault (b5 (c .before .before))) _ (clear-mpidrs c)
 
 -- rules 15 and 16
-map-fault : (c : tie.After-find-map) → c .find-map .result .number ≡ mapStage (b6 c) .number
-map-fault c = ap (λ (r : MapScan). r .number) (c .find-map .ensures) ∙ map-number (b6 c .nodes) (b6 c .pool)
+map-fault : (c : tie.After-find-map) → c .find-map .result .fault ≡ mapStage (b6 c)
+unfolding mapScan
+map-fault c = ap (λ (r : MapScan). r .fault) (c .find-map .ensures)
 
-clear-map : (c : tie.Else4) → mapStage (b6 (c .before .before)) .number ≡ 0
-clear-map c = sym (map-fault (c .before .before)) ∙ c .if4 .left
+clear-map : (c : tie.Else5) → mapStage (b6 (c .before .before)) .number ≡ 0
+clear-map c = ap (λ (f : Fault). f .number) (sym (map-fault (c .before .before))) ∙ c .if5 .left
 
-rest-5 : (c : tie.Else4) → surveyFault (b6 (c .before .before)) ≡ fromPhandles (b6 (c .before .before))
+rest-5 : (c : tie.Else5) → surveyFault (b6 (c .before .before)) ≡ fromPhandles (b6 (c .before .before))
 rest-5 c = rest-4 (c .before .before .before) ∙ or-second (mapStage (b6 (c .before .before))) _ (clear-map c)
 
 -- rule 17
@@ -202,14 +206,14 @@ module _ (c : tie.After-read-numbers2) where
       c .read-numbers2 .ensures .1
       ∙ numbers-found (b7 c) (well-5 read) (indexed read .index-properties .ensures) all-cpus {wanted = Phandles} refl 17 _ z
 
-clear-phandles : (c : tie.Else5) → phandlesFault (b7 (c .before .before .before)) .number ≡ 0
-clear-phandles c = ap (λ (f : Fault). f .number) (sym (phandle-fault (c .before .before .before))) ∙ c .if5 .left
+clear-phandles : (c : tie.Else6) → phandlesFault (b7 (c .before .before .before)) .number ≡ 0
+clear-phandles c = ap (λ (f : Fault). f .number) (sym (phandle-fault (c .before .before .before))) ∙ c .if6 .left
 
-rest-6 : (c : tie.Else5) → let b = b7 (c .before .before .before) in surveyFault b ≡ leavesFault (treeOf b) (cpuList b)
+rest-6 : (c : tie.Else6) → let b = b7 (c .before .before .before) in surveyFault b ≡ leavesFault (treeOf b) (cpuList b)
 rest-6 c =
     rest-5 (c .before .before .before .before .before .before) ∙ or-second (phandlesFault (b7 (c .before .before .before))) _ (clear-phandles c)
 
-module _ (c : tie.Else5) where
+module _ (c : tie.Else6) where
   abbrev asked : tie.After-read-numbers2
   asked = c .before .before .before
 
@@ -224,7 +228,7 @@ module _ (c : tie.Else5) where
 
 -- rules 18 to 26
 module _ (c : tie.After-read-tree) where
-  abbrev e6 : tie.Else5
+  abbrev e6 : tie.Else6
   e6 = c .before .before .before .before .before
 
   abbrev found : tie.After-find-map
@@ -255,18 +259,15 @@ module _ (c : tie.After-read-tree) where
   scanned : c .read-tree .result ≡ treeScan (treeOf (b8 c)) (cpuList (b8 c))
   scanned = c .read-tree .ensures .0 ∙ ap₂ treeScan tree-here (listed-is (wholes keyed))
 
-  tree-number : c .read-tree .result .number ≡ leavesFault (treeOf (b8 c)) (cpuList (b8 c)) .number
-  tree-number = ap (λ (r : TreeScan). r .number) scanned
+  tree-fault : c .read-tree .result .fault ≡ leavesFault (treeOf (b8 c)) (cpuList (b8 c))
+  tree-fault = ap (λ (r : TreeScan). r .fault) scanned
 
-  tree-place : c .read-tree .result .place ≡ leavesFault (treeOf (b8 c)) (cpuList (b8 c)) .place
-  tree-place = ap (λ (r : TreeScan). r .place) scanned
-
-module _ (c : tie.Else6) where
+module _ (c : tie.Else7) where
   abbrev call : tie.After-read-tree
-  call = c .before .before
+  call = c .before .before .before
 
   clear-tree : leavesFault (treeOf (b8 call)) (cpuList (b8 call)) .number ≡ 0
-  clear-tree = sym (tree-number call) ∙ c .if6 .left
+  clear-tree = ap (λ (f : Fault). f .number) (sym (tree-fault call)) ∙ c .if7 .left
 
   leaves-laid :
       call .read-tree .last .1 .1 .1 .1 .1 .1 .1 .0 ≡ laidOver (leavesOf (b8 call)) (start (at-count (keyed call) .before) .args .leaves .now)
@@ -285,11 +286,6 @@ module _ (c : tie.Else6) where
   leaf-count : call .read-tree .result .count ≡ length (leavesOf (b8 call))
   leaf-count = ap (λ (r : TreeScan). r .count) (scanned call) ∙ rw (eq-eqb _ 0 clear-tree)
 
--- a number told of place 0
-told-at-zero : (v : ℕ) → 0 ≡ told v 0 .place
-told-at-zero zero = refl
-told-at-zero (suc v) = refl
-
 table-fault-requires : tie.Need-table-fault-requires
 table-fault-requires c κs = search needs
 
@@ -299,18 +295,10 @@ stop-requires c κs = search needs
 returns : tie.Need-returns
 returns c =
     let call = c .before .before .before in
-    let is = call .table-fault .ensures in
-    tells-first (b1 call) (tableFault (b1 call)) _ (survey-stages (b1 call)) (c .stop .ensures) (c .before .if1 .taken)
-    (ap (λ (f : Fault). f .number) is) (ap (λ (f : Fault). f .place) is)
+    tells-first (b1 call) (tableFault (b1 call)) _ (survey-stages (b1 call)) (c .stop .ensures) (c .before .if1 .taken) (call .table-fault .ensures)
 
-read-cells-requires : tie.Need-read-cells-requires
-read-cells-requires c κs = search needs
-
-enum-known-cells : tie.Need-enum-known-cells
-enum-known-cells c = search needs
-
-enum-told : tie.Need-enum-told
-enum-told c = search needs
+read-root-requires : tie.Need-read-root-requires
+read-root-requires c κs = search needs
 
 stop-requires-2 : tie.Need-stop-requires-2
 stop-requires-2 c κs = search needs
@@ -319,8 +307,7 @@ returns-2 : tie.Need-returns-2
 returns-2 c =
     let call = c .before .before .before in
     let b = b2 (call .before) in
-    let nine = ap rootNumber (sym (call .read-cells .ensures) ∙ c .before .enum-told .given .1) in
-    tells-first b (told (rootFault b) 0) _ (rest-1 (call .before)) (c .stop2 .ensures) (λ z. omega arith) (rw nine) (rw nine)
+    tells-first b (rootFault b) _ (rest-1 (call .before)) (c .stop2 .ensures) (c .before .if2 .taken) (root-fault call)
 
 list-cpus-requires : tie.Need-list-cpus-requires
 list-cpus-requires c κs = search needs
@@ -335,9 +322,8 @@ returns-3 : tie.Need-returns-3
 returns-3 c =
     let call = c .before .before in
     let b = b4 call in
-    tells-first b (told (countFault (cpuCount b)) 0) _ (rest-2 (call .before .before .before)) (c .stop3 .ensures) (c .before .if2 .taken)
-    (counted call ∙ sym (told-number _ 0))
-    (told-at-zero (countFault (cpuCount b)))
+    tells-first b (told (countFault (cpuCount b)) 0) _ (rest-2 (call .before .before .before)) (c .stop3 .ensures) (c .before .if3 .taken)
+    (sym (told-at (call .count-fault .result) 0 (c .before .if3 .taken)) ∙ ap (λ (v : ℕ). told v 0) (counted call))
 
 slice-aggregate-listed : tie.Need-slice-aggregate-listed
 slice-aggregate-listed c = listed-size (c .before)
@@ -354,10 +340,7 @@ stop-requires-4 c κs = search needs
 returns-4 : tie.Need-returns-4
 returns-4 c =
     let call = c .before .before .before in
-    let is = mpidr-fault call in
-    tells-first (b5 call) (cpuFault (b5 call)) _ (rest-3 (at-count call)) (c .stop4 .ensures) (c .before .if3 .taken)
-    (ap (λ (f : Fault). f .number) is)
-    (ap (λ (f : Fault). f .place) is)
+    tells-first (b5 call) (cpuFault (b5 call)) _ (rest-3 (at-count call)) (c .stop4 .ensures) (c .before .if4 .taken) (mpidr-fault call)
 
 find-map-requires : tie.Need-find-map-requires
 find-map-requires c κs = search needs
@@ -369,9 +352,7 @@ returns-5 : tie.Need-returns-5
 returns-5 c =
     let call = c .before .before .before in
     let b = b6 call in
-    let ne : mapStage b .number ≡ 0 → ⊥ = λ z. c .before .if4 .taken (map-fault call ∙ z) in
-    let place = ap (λ (r : MapScan). r .place) (call .find-map .ensures) ∙ map-place (b .nodes) (b .pool) ne in
-    tells-first b (mapStage b) _ (rest-4 (call .before)) (c .stop5 .ensures) (c .before .if4 .taken) (map-fault call) place
+    tells-first b (mapStage b) _ (rest-4 (call .before)) (c .stop5 .ensures) (c .before .if5 .taken) (map-fault call)
 
 slice-aggregate-read-numbers : tie.Need-slice-aggregate-read-numbers
 slice-aggregate-read-numbers c = search needs
@@ -385,10 +366,8 @@ stop-requires-6 c κs = search needs
 returns-6 : tie.Need-returns-6
 returns-6 c =
     let call = c .before .before .before .before in
-    let is = phandle-fault call in
-    tells-first (b7 call) (phandlesFault (b7 call)) _ (rest-5 (call .before .before .before)) (c .stop6 .ensures) (c .before .if5 .taken)
-    (ap (λ (f : Fault). f .number) is)
-    (ap (λ (f : Fault). f .place) is)
+    tells-first (b7 call) (phandlesFault (b7 call)) _ (rest-5 (call .before .before .before)) (c .stop6 .ensures) (c .before .if6 .taken)
+    (phandle-fault call)
 
 array-share-prefix-phandles : tie.Need-array-share-prefix-phandles
 array-share-prefix-phandles c = let e = c .before in front-fits _ _ (phandles-laid (asked e) (clear-phandles e)) (as-many e) (few-phandles e)
@@ -404,14 +383,16 @@ stop-requires-7 c κs = search needs
 
 returns-7 : tie.Need-returns-7
 returns-7 c =
-    let call = c .before .before .before in
-    tells (b8 call) (rest-6 (e6 call)) (c .stop7 .ensures) (c .before .if6 .taken) (tree-number call) (tree-place call)
+    let call = c .before .before .before .before in
+    tells (b8 call) (rest-6 (e6 call)) (c .stop7 .ensures) (c .before .if7 .taken) (tree-fault call)
 
 returns-8 : tie.Need-returns-8
 returns-8 c =
     let b = b8 (call c) in
     let first = read (asked (e6 (call c))) in
-    clears b (ap (λ (f : Fault). f .number) (rest-6 (e6 (call c))) ∙ clear-tree c)
+    clears b
+    (tree-fault (call c) ∙ sym (rest-6 (e6 (call c))))
+    (ap (λ (f : Fault). f .number) (rest-6 (e6 (call c))) ∙ clear-tree c)
     (as-many-cpus (at-count first .before))
     (leaf-count c)
     (record {
@@ -428,9 +409,7 @@ survey-spec =
     table-fault-requires
     stop-requires
     returns
-    read-cells-requires
-    enum-known-cells
-    enum-told
+    read-root-requires
     stop-requires-2
     returns-2
     list-cpus-requires

@@ -45,6 +45,9 @@ read-tables-requires c κs = search needs
 answer-requires : tie.Need-answer-requires
 answer-requires c κs = search needs
 
+told-requires : tie.Need-told-requires
+told-requires c κs = search needs
+
 array-share-prefix-rows : tie.Need-array-share-prefix-rows
 array-share-prefix-rows c = simp length-append (omega arith)
 
@@ -74,6 +77,7 @@ read-spec =
     slice-aggregate-read-tables-2
     read-tables-requires
     answer-requires
+    told-requires
     array-share-prefix-rows
     slice-aggregate-words-2
     words-requires-2

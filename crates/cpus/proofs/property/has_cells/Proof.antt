@@ -7,31 +7,16 @@ use Rattle.cpus.proofs.property.has_cells.Tie as tie
 size-of-requires : tie.Need-size-of-requires
 size-of-requires c κs = search needs
 
-prop-word-requires : tie.Need-prop-word-requires
-prop-word-requires c κs = search needs
-
 returns : tie.Need-returns
-returns c = rw (← c .before .before .size-of .ensures, ← c .before .prop-word .ensures, ne-eqb _ _ (c .if1 .taken))
-
-prop-word-requires-2 : tie.Need-prop-word-requires-2
-prop-word-requires-2 c κs = search needs
+returns c = rw (← c .before .before .size-of .ensures, ne-eqb _ _ (c .if1 .taken))
 
 is-inside-requires : tie.Need-is-inside-requires
 is-inside-requires c κs = search needs
 
 returns-2 : tie.Need-returns-2
 returns-2 c =
-    let test = c .before .before in
-    rw (← test .before .before .size-of .ensures, ← test .before .prop-word .ensures, eq-eqb _ _ (test .if1 .left), ← c .before .prop-word2 .ensures)
-    (c .is-inside .ensures)
+    let test = c .before in
+    rw (← test .before .before .size-of .ensures, eq-eqb _ _ (test .if1 .left)) (c .is-inside .ensures)
 
 pub has-cells-spec : {M : Type 1} → statement M
-has-cells-spec =
-    tie.close
-    (tie.spec
-    size-of-requires
-    prop-word-requires
-    returns
-    prop-word-requires-2
-    is-inside-requires
-    returns-2)
+has-cells-spec = tie.close (tie.spec size-of-requires returns is-inside-requires returns-2)

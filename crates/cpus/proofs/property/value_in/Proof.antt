@@ -19,37 +19,20 @@ returns c = search needs
 has-cells-requires : tie.Need-has-cells-requires
 has-cells-requires c κs = search needs
 
-prop-word-requires : tie.Need-prop-word-requires
-prop-word-requires c κs = search needs
-
 cells-at-requires : tie.Need-cells-at-requires
 cells-at-requires c κs =
-    let test = c .before in
-    let a = test .before .before .before .before .before .before .before .args in
-    let sized = sym (test .before .has-cells .ensures) ∙ test .if1 .taken in
-    rw (c .prop-word .ensures) (sized-test (a .props .now) (a .pool .now) (sizeOf (a .cells)) _ .0 sized .1)
+    let known = c .before .before .before in
+    let a = known .before .before .before .args in
+    let sized = sym (c .before .has-cells .ensures) ∙ c .if1 .taken in
+    sized-test (a .pool .now) (sizeOf (a .cells)) (known .found .given .0 .0) .0 sized .1
 
 returns-2 : tie.Need-returns-2
 returns-2 c =
-    let test = c .before .before in
-    rw (
-      test .before .before .before .found .given .1,
-      sym (test .before .has-cells .ensures) ∙ test .if1 .taken,
-      ← c .before .prop-word .ensures,
-    ) (ap Number (c .cells-at .ensures))
+    let test = c .before in
+    rw (test .before .before .before .found .given .1, sym (test .before .has-cells .ensures) ∙ test .if1 .taken) (ap Number (c .cells-at .ensures))
 
 returns-3 : tie.Need-returns-3
 returns-3 c = rw (c .before .before .before .found .given .1, sym (c .before .has-cells .ensures) ∙ c .if1 .left)
 
 pub value-in-spec : {M : Type 1} → statement M
-value-in-spec =
-    tie.close
-    (tie.spec
-    enum-known-found
-    enum-told
-    returns
-    has-cells-requires
-    prop-word-requires
-    cells-at-requires
-    returns-2
-    returns-3)
+value-in-spec = tie.close (tie.spec enum-known-found enum-told returns has-cells-requires cells-at-requires returns-2 returns-3)

@@ -9,11 +9,14 @@ enum-known-value c = search needs
 enum-told : tie.Need-enum-told
 enum-told c = search needs
 
+record-of-requires : tie.Need-record-of-requires
+record-of-requires c κs = search needs
+
 returns : tie.Need-returns
 returns c = rw (c .before .value .given .1)
 
 returns-2 : tie.Need-returns-2
-returns-2 c = rw (c .enum-told .given .1)
+returns-2 c = rw (c .before .enum-told .given .1, c .record-of .ensures)
 
 pub number-or-spec : {M : Type 1} → statement M
-number-or-spec = tie.close (tie.spec enum-known-value enum-told returns returns-2)
+number-or-spec = tie.close (tie.spec enum-known-value enum-told record-of-requires returns returns-2)

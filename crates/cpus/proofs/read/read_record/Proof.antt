@@ -20,18 +20,23 @@ cell-in-requires c κs = search needs
 phandle-in-requires : tie.Need-phandle-in-requires
 phandle-in-requires c κs = search needs
 
+record-of-requires : tie.Need-record-of-requires
+record-of-requires c κs = search needs
+
 number-or-requires : tie.Need-number-or-requires
 number-or-requires c κs = search needs
 
 returns : tie.Need-returns
 unfolding readingFrom
 returns c =
-    let cell = c .before .before in
+    let phandle = c .before .before in
+    let cell = phandle .before in
     rw (
       cell .before .before .enum-told .given .1,
       ← cell .before .find-indexed .ensures,
       ← cell .cell-in .ensures,
-      ← c .before .phandle-in .ensures,
+      ← phandle .phandle-in .ensures,
+      ← c .before .record-of .ensures,
     ) (c .number-or .ensures)
 
 find-indexed-requires-2 : tie.Need-find-indexed-requires-2
@@ -71,8 +76,8 @@ returns-2 c =
       ← c .before .affine-only .ensures,
     ) (c .number-or2 .ensures)
 
-number-or-requires-3 : tie.Need-number-or-requires-3
-number-or-requires-3 c κs = search needs
+record-of-requires-2 : tie.Need-record-of-requires-2
+record-of-requires-2 c κs = search needs
 
 returns-3 : tie.Need-returns-3
 unfolding readingFrom
@@ -84,7 +89,8 @@ returns-3 c =
       ← kind .before .find-indexed2 .ensures,
       ← kind .cell-in2 .ensures,
       sym (test .before .is-number .ensures) ∙ test .if1 .left,
-    ) (c .number-or3 .ensures)
+      c .record-of2 .ensures,
+    )
 
 pub read-record-spec : {M : Type 1} → statement M
 read-record-spec =
@@ -95,6 +101,7 @@ read-record-spec =
     find-indexed-requires
     cell-in-requires
     phandle-in-requires
+    record-of-requires
     number-or-requires
     returns
     find-indexed-requires-2
@@ -105,5 +112,5 @@ read-record-spec =
     affine-only-requires
     number-or-requires-2
     returns-2
-    number-or-requires-3
+    record-of-requires-2
     returns-3)

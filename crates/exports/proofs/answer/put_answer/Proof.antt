@@ -1,4 +1,4 @@
--- `put_answer` writes the ten words, and the rest stays: with room for them that is what each call owes. Assumes nothing.
+-- `put_answer` writes the eleven words, and the rest stays: with room for them that is what each call owes. Assumes nothing.
 use native.Mathlib.Omega.{arith}
 use lib.ListN.{length-set}
 use lib.Seq.{sets-eq}
@@ -56,6 +56,9 @@ slice-write-answer-9 c = simp length-set (omega arith)
 slice-write-answer-10 : tie.Need-slice-write-answer-10
 slice-write-answer-10 c = simp length-set (omega arith)
 
+slice-write-answer-11 : tie.Need-slice-write-answer-11
+slice-write-answer-11 c = simp length-set (omega arith)
+
 same-length : tie.Need-same-length
 same-length c = simp length-set
 
@@ -64,7 +67,7 @@ unfolding answerWords
 returns c =
     let a = c .before .before .before .args in
     let enough = le-ltb _ _ (c .before .before .before .pre) in
-    (rw enough, rw enough (sets-eq (answerWords (a .number) (a .place) (a .third) (a .hash)) (a .answer .now) 0 (omega arith)))
+    (rw enough, rw enough (sets-eq (answerWords (a .number) (a .place) (a .second) (a .third) (a .hash)) (a .answer .now) 0 (omega arith)))
 
 pub put-answer-spec : {M : Type 1} → statement M
 put-answer-spec =
@@ -86,5 +89,6 @@ put-answer-spec =
     array-read-answer-4
     slice-write-answer-9
     slice-write-answer-10
+    slice-write-answer-11
     same-length
     returns)

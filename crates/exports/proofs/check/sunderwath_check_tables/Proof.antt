@@ -9,7 +9,7 @@ use Rattle.exports.proofs.check.sunderwath_check_tables.Statement.{stat
 use Rattle.exports.proofs.check.sunderwath_check_tables.Tie as tie
 
 returns : tie.Need-returns
-returns c = let short = lt-ltb (length (c .before .before .before .before .before .args .answer .now)) 10 (omega arith) in (rw short, rw short)
+returns c = let short = lt-ltb (length (c .before .before .before .before .before .args .answer .now)) 11 (omega arith) in (rw short, rw short)
 
 table-fault-requires : tie.Need-table-fault-requires
 table-fault-requires c κs = search needs

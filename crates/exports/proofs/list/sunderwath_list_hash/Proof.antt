@@ -9,7 +9,7 @@ use Rattle.exports.proofs.list.sunderwath_list_hash.Statement.{statemen
 use Rattle.exports.proofs.list.sunderwath_list_hash.Tie as tie
 
 returns : tie.Need-returns
-returns c = let short = lt-ltb (length (c .before .before .before .args .answer .now)) 10 (omega arith) in (rw short, rw short)
+returns c = let short = lt-ltb (length (c .before .before .before .args .answer .now)) 11 (omega arith) in (rw short, rw short)
 
 list-hash-requires : tie.Need-list-hash-requires
 list-hash-requires c κs = search needs

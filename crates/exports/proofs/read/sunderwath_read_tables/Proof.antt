@@ -2,7 +2,7 @@
 use native.Mathlib.Omega.{arith}
 use lib.ListN.{length}
 use borrow.Author.Tests.{lt-ltb, le-ltb}
-use Rattle.demands.proofs.BoundLaws.{answer-place, answer-count}
+use Rattle.demands.proofs.BoundLaws.{answer-place, answer-second, answer-count}
 use Rattle.exports.proofs.CallLaws.{word-holds}
 use borrow.Author.Needs.{needs}
 use Rattle.exports.proofs.read.sunderwath_read_tables.Statement.{statement}
@@ -11,8 +11,8 @@ use Rattle.exports.proofs.read.sunderwath_read_tables.Tie as tie
 returns : tie.Need-returns
 returns c =
     let start = c .before .before .before .before .before .before in
-    let short = lt-ltb (length (start .args .answer .now)) 10 (omega arith) in
-    (rw short, (rw short, rw short))
+    let short = lt-ltb (length (start .args .answer .now)) 11 (omega arith) in
+    (rw short, (rw short, (rw short, λ long. absurd (omega arith))))
 
 read-tables-requires : tie.Need-read-tables-requires
 read-tables-requires c κs = search needs
@@ -21,7 +21,11 @@ cast-put-answer : tie.Need-cast-put-answer
 cast-put-answer c = rw (c .before .before .before .before .before .read-tables .ensures .0) (word-holds (answer-place _ _) (omega arith))
 
 cast-put-answer-2 : tie.Need-cast-put-answer-2
-cast-put-answer-2 c = rw (c .before .before .before .before .before .before .read-tables .ensures .0) (word-holds (answer-count _ _) (omega arith))
+cast-put-answer-2 c = rw (c .before .before .before .before .before .before .read-tables .ensures .0) (word-holds (answer-second _ _) (omega arith))
+
+cast-put-answer-3 : tie.Need-cast-put-answer-3
+cast-put-answer-3 c =
+    rw (c .before .before .before .before .before .before .before .read-tables .ensures .0) (word-holds (answer-count _ _) (omega arith))
 
 put-answer-requires : tie.Need-put-answer-requires
 put-answer-requires c κs = search needs
@@ -34,10 +38,18 @@ same-length-2 c = search needs
 
 returns-2 : tie.Need-returns-2
 returns-2 c =
-    let call = c .before .before .before .before .before .before .before .before .before in
+    let call = c .before .before .before .before .before .before .before .before .before .before in
     let is = call .read-tables .ensures .0 in
-    let told = c .before .before .put-answer .ensures in
-    (rw (← is) (told .0), (rw (le-ltb _ _ (call .before .before .if1 .left)) (call .read-tables .ensures .1 .0), rw (← is) (told .1)))
+    let told = c .before .before .put-answer .ensures in (
+      rw (← is) (told .0),
+      (
+        rw (le-ltb _ _ (call .before .before .if1 .left)) (call .read-tables .ensures .1 .0),
+        (
+          rw (← is) (told .1),
+          λ _. rw (← is) (call .read-tables .ensures .1 .1),
+        ),
+      ),
+    )
 
 pub sunderwath-read-tables-spec : {M : Type 1} → statement M
 sunderwath-read-tables-spec =
@@ -47,6 +59,7 @@ sunderwath-read-tables-spec =
     read-tables-requires
     cast-put-answer
     cast-put-answer-2
+    cast-put-answer-3
     put-answer-requires
     same-length
     same-length-2

@@ -7,11 +7,11 @@ use Rattle.leaves.proofs.leaf.leaf_check.Tie as tie
 returns : tie.Need-returns
 returns c = rw (lt-ltb _ _ (c .if1 .taken))
 
-no-leaf-requires : tie.Need-no-leaf-requires
-no-leaf-requires c κs = search needs
+record-of-requires : tie.Need-record-of-requires
+record-of-requires c κs = search needs
 
 returns-2 : tie.Need-returns-2
-returns-2 c = rw (le-ltb _ _ (c .before .if1 .left)) (c .no-leaf .ensures)
+returns-2 c = rw (le-ltb _ _ (c .before .if1 .left), c .record-of .ensures)
 
 pub leaf-check-spec : {M : Type 1} → statement M
-leaf-check-spec = tie.close (tie.spec returns no-leaf-requires returns-2)
+leaf-check-spec = tie.close (tie.spec returns record-of-requires returns-2)

@@ -9,8 +9,8 @@ use lib.ListN.{length, length-replicate}
 use borrow.Author.Tests.{not-true, not-false}
 use borrow.Author.Needs.{needs}
 use Rattle.leaves.specs.declared.RecordCheck.{RecordCheck}
-use Rattle.leaves.specs.answers.Check.{indexedCells}
-use Rattle.leaves.specs.answers.Scan.{Tree, tree, isLeaf, treeFault}
+use Rattle.leaves.specs.answers.Check.{indexedCpu}
+use Rattle.leaves.specs.answers.Scan.{Tree, tree, check, isLeaf, treeFault}
 use Rattle.leaves.specs.steps.Pass.{Marked}
 use Rattle.leaves.proofs.LeafCount.{leaf-is}
 use Rattle.leaves.proofs.RecordPassLaws.{Gathered, gathered-none, fault-is, told-scan, told-left, all-scan, all-left}
@@ -20,7 +20,7 @@ use Rattle.leaves.proofs.pass.scan_records.Tie as tie
 
 abbrev Inv-loop : tie.InvT-loop
 Inv-loop nodes props pool index map phandles marks₀ leaves₀ named₀ n count₀ i₀ marks leaves named count i =
-    (i ≤ n) × Gathered (tree nodes (indexedCells props pool index) pool map phandles) leaves₀ named₀ marks leaves named count i
+    (i ≤ n) × Gathered (tree nodes (indexedCpu props index) pool map phandles) leaves₀ named₀ marks leaves named count i
 
 abbrev μ-loop : tie.MeasureT-loop
 μ-loop nodes props pool index map phandles marks₀ leaves₀ named₀ n count₀ i₀ marks leaves named count i = n - i
@@ -32,7 +32,7 @@ entry c = c .before .before .before .before .before .before
 abbrev treeIn : tie.Start Inv-loop μ-loop → Tree
 treeIn s =
     let a = s .args in
-    tree (a .nodes .now) (indexedCells (a .props .now) (a .pool .now) (a .index .now)) (a .pool .now) (a .map) (a .phandles .now)
+    tree (a .nodes .now) (indexedCpu (a .props .now) (a .index .now)) (a .pool .now) (a .map) (a .phandles .now)
 
 -- what the check of record i answers is what it breaks
 fault :
@@ -41,6 +41,14 @@ fault :
 fault c =
     let call = c .before .before in
     fault-is _ _ _ (call .before .before .loop .inv .1) (call .record-check .ensures) (c .checked-fault .ensures)
+
+-- .. with the second place of that
+second :
+    (c : tie.After-checked-fault Inv-loop μ-loop) →
+    let call = c .before .before in
+    let at = call .before .before in
+    call .record-check .result .second ≡ check (treeIn (entry at)) (at .loop .i) .second
+second c = ap (λ (r : RecordCheck). r .second) (c .before .before .record-check .ensures)
 
 -- record i is a leaf
 leaf :
@@ -89,7 +97,7 @@ returns c =
     let call = c .before .before in
     let at = call .before .before .before .before in
     let g = at .loop .inv .1 in (
-      c .refuse .ensures ∙ told-scan _ _ _ g (omega arith) (fault call) (c .before .if1 .taken),
+      c .refuse .ensures ∙ told-scan _ _ _ g (omega arith) (fault call) (c .before .if1 .taken) (second call),
       told-left _ _ _ g (omega arith) (fault call) (c .before .if1 .taken),
     )
 

@@ -1,14 +1,16 @@
 -- `find_indexed` meets its contract: a word of the table tells. Assumes nothing.
+use mathlib.Core.Path.{ap, _∙_}
 use Prim.Native.Nat.{_+_, _*_, _<_}
 use native.Mathlib.Omega.{arith}
 use borrow.Author.Needs.{needs}
+use Rattle.tables.specs.declared.Lookup.the-variants.{At}
 use Rattle.property_index.proofs.KeyLaws.{number-lt}
 use Rattle.property_index.proofs.CodeLaws.{key-beyond, key-none, key-some}
 use Rattle.property_index.proofs.index.find_indexed.Statement.{statement}
 use Rattle.property_index.proofs.index.find_indexed.Tie as tie
 
 returns : tie.Need-returns
-returns c = key-beyond _ _ _ (omega (arith, c .before .words .given))
+returns c = key-beyond _ _ _ _ (omega (arith, c .before .words .given))
 
 mul-noted : tie.Need-mul-noted
 mul-noted c = search needs
@@ -18,7 +20,7 @@ key-number-requires c κs = search needs
 
 -- the key's number is below 4
 number : (c : tie.After-key-number) → c .key-number .result < 4
-number c = rw (c .key-number .ensures) (number-lt (c .before .before .before .args .key))
+number c = rw (c .key-number .ensures) (number-lt (c .before .before .before .before .args .key))
 
 add-noted : tie.Need-add-noted
 add-noted c = omega (arith, number c)
@@ -32,16 +34,21 @@ shared-slice-read-noted c = omega (arith, number (c .before), c .before .before 
 cast-noted : tie.Need-cast-noted
 cast-noted c =
     let number = c .before in
-    omega (arith, c .shared-slice-known .given (4 * number .before .before .before .args .i + number .key-number .result))
+    omega (arith, c .shared-slice-known2 .given (4 * number .before .before .before .before .args .i + number .key-number .result))
 
 returns-2 : tie.Need-returns-2
-returns-2 c = key-none _ _ _ (c .before .before .key-number .ensures) (c .if2 .taken)
+returns-2 c = key-none _ _ _ _ (c .before .before .key-number .ensures) (c .if2 .taken)
 
-sub-t8 : tie.Need-sub-t8
-sub-t8 c = search needs
+sub-found-at : tie.Need-sub-found-at
+sub-found-at c = search needs
+
+found-at-requires : tie.Need-found-at-requires
+found-at-requires c κs = search needs
 
 returns-3 : tie.Need-returns-3
-returns-3 c = key-some _ _ _ (c .before .before .key-number .ensures) (c .if2 .left)
+returns-3 c =
+    let noted = c .before in
+    ap At (c .found-at .ensures) ∙ key-some _ _ _ _ (noted .before .before .key-number .ensures) (noted .if2 .left)
 
 pub find-indexed-spec : {M : Type 1} → statement M
 find-indexed-spec =
@@ -55,5 +62,6 @@ find-indexed-spec =
     shared-slice-read-noted
     cast-noted
     returns-2
-    sub-t8
+    sub-found-at
+    found-at-requires
     returns-3)

@@ -1,9 +1,10 @@
 -- `find_property` finds the lowest property of that name: none of the `count - left` records tested is one. Assumes nothing.
-use mathlib.Core.Path.{_≡_, sym, _∙_}
+use mathlib.Core.Path.{_≡_, sym, ap, _∙_}
 use Prim.Native.Nat.{_≤_, _-_}
 use native.Mathlib.Omega.{arith}
 use borrow.Author.Needs.{needs}
 use Rattle.laws.specs.answers.Search.{lowest}
+use Rattle.tables.specs.declared.Lookup.the-variants.{At}
 use Rattle.tables.specs.answers.Lookup.{isProperty}
 use Rattle.tables.proofs.CodeLookup.{found-at, found-none, none-more, none-yet}
 use Rattle.tables.proofs.property.find_property.Statement.{statement}
@@ -24,10 +25,15 @@ sub-k c = search needs
 is-property-requires : tie.Need-is-property-requires Inv-loop μ-loop
 is-property-requires c κs = search needs
 
+found-at-requires : tie.Need-found-at-requires Inv-loop μ-loop
+found-at-requires c κs = search needs
+
 returns : tie.Need-returns Inv-loop μ-loop
 returns c =
-    let call = c .before in
-    found-at _ _ _ _ _ (call .before .before .loop .inv .1) (sym (call .is-property .ensures) ∙ c .if1 .taken) (omega arith)
+    let test = c .before in
+    let call = test .before in
+    ap At (c .found-at .ensures)
+    ∙ found-at _ _ _ _ _ (call .before .before .loop .inv .1) (sym (call .is-property .ensures) ∙ test .if1 .taken) (omega arith)
 
 sub-left : tie.Need-sub-left Inv-loop μ-loop
 sub-left c = search needs
@@ -52,6 +58,7 @@ find-property-spec =
     loop-holds
     sub-k
     is-property-requires
+    found-at-requires
     returns
     sub-left
     loop-less
