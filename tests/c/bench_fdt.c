@@ -14,6 +14,7 @@
 #define MAX_CPUS 256
 #define MAX_DEPTH 16
 #define ROW_WORDS 12
+#define ANSWER_WORDS 11
 #define LEVELS 4
 
 struct cpu {
@@ -225,7 +226,7 @@ static int write_rows(const struct board *board, int through_libfdt,
 }
 
 /*
- * Reads a blob into rows and an answer of ten words; 0 on success. Phandles
+ * Reads a blob into rows and an answer of eleven words; 0 on success. Phandles
  * are looked up by libfdt, or in the table of cpu nodes.
  */
 int bench_fdt_read(const void *blob, int through_libfdt, uint32_t *rows,
@@ -251,10 +252,11 @@ int bench_fdt_read(const void *blob, int through_libfdt, uint32_t *rows,
         return -1;
     for (i = 0; i < board.cpu_count; i++)
         mask |= board.cpus[i].mpidr ^ board.cpus[0].mpidr;
-    memset(answer, 0, 10 * sizeof *answer);
+    memset(answer, 0, ANSWER_WORDS * sizeof *answer);
     answer[2] = board.cpu_count;
     answer[3] = (uint32_t)mask;
     answer[4] = (uint32_t)(mask >> 32);
     answer[9] = hash_layout(mask, answer + 5);
+    answer[10] = GAP; /* no second place */
     return write_rows(&board, through_libfdt, mask, answer + 5, rows);
 }

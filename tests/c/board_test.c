@@ -1,7 +1,7 @@
 /*
  * Calls read_tables, check_tables and find_property from C on the whole case
- * of the scope paper and on some refusals. Prints a line per case; exit status
- * 1 on a difference.
+ * of the scope paper and on some refusals, those with a second place among
+ * them. Prints a line per case; exit status 1 on a difference.
  */
 #include "sunderwath.h"
 
@@ -15,6 +15,8 @@
 #define PROPS 10
 #define ROWS (CPUS * SUNDERWATH_ROW_WORDS)
 #define GAP SUNDERWATH_GAP
+#define NONE SUNDERWATH_NONE
+#define ANSWER_ROOM (SUNDERWATH_ANSWER_WORDS + 2 * GUARD)
 
 struct board {
     uint32_t width;
@@ -100,41 +102,66 @@ static void whole_case(struct board *board)
     add_cell(board, 6, "phandle", 2);
 }
 
-/* Reads into a buffer of `words` words between guards and compares all. */
+/* Whether a part holds these words behind its guard, and the pattern else. */
+static int holds(const uint32_t *part, size_t part_n, const uint32_t *words,
+                 size_t n)
+{
+    size_t i;
+    int good = 1;
+
+    for (i = 0; i < part_n; i++) {
+        int inside = i >= GUARD && i < GUARD + n;
+
+        good &= part[i] == (inside ? words[i - GUARD] : PATTERN);
+    }
+    return good;
+}
+
+/* Reads into a buffer of `words` words and into answers of the stated words and
+ * of more, all between guards, and compares all. */
 static int reads_as(const struct board *board, size_t words,
                     const uint32_t want[SUNDERWATH_ANSWER_WORDS],
                     const uint32_t *want_rows)
 {
-    uint32_t rows[ROWS + 2 * GUARD], expected[ROWS + 2 * GUARD];
-    uint32_t answer[SUNDERWATH_ANSWER_WORDS];
-    uint32_t number;
+    uint32_t rows[ROWS + 2 * GUARD], answer[ANSWER_ROOM];
+    size_t more;
+    int good = 1;
 
-    memset(rows, 0xA5, sizeof rows);
-    memset(expected, 0xA5, sizeof expected);
-    if (want_rows != NULL)
-        memcpy(expected + GUARD, want_rows, ROWS * sizeof *want_rows);
-    number = sunderwath_read_tables(
-        board->width, board->nodes, board->n, board->props, board->p,
-        board->pool, board->bytes, rows + GUARD, words, answer,
-        SUNDERWATH_ANSWER_WORDS);
-    return number == want[0] && memcmp(answer, want, sizeof answer) == 0 &&
-           memcmp(rows, expected, sizeof rows) == 0;
+    for (more = 0; more <= GUARD; more++) {
+        memset(rows, 0xA5, sizeof rows);
+        memset(answer, 0xA5, sizeof answer);
+        good &= sunderwath_read_tables(
+                    board->width, board->nodes, board->n, board->props,
+                    board->p, board->pool, board->bytes, rows + GUARD, words,
+                    answer + GUARD, SUNDERWATH_ANSWER_WORDS + more) == want[0];
+        good &= holds(answer, ANSWER_ROOM, want, SUNDERWATH_ANSWER_WORDS);
+        good &= holds(rows, ROWS + 2 * GUARD, want_rows,
+                      want_rows == NULL ? 0 : ROWS);
+    }
+    return good;
 }
 
-static int refused(const struct board *board, size_t words, uint32_t number,
-                   uint32_t place)
+static int refused_with(const struct board *board, size_t words,
+                        uint32_t number, uint32_t place, uint32_t second)
 {
     uint32_t want[SUNDERWATH_ANSWER_WORDS] = {0};
 
     want[SUNDERWATH_ANSWER_NUMBER] = number;
     want[SUNDERWATH_ANSWER_PLACE] = place;
+    want[SUNDERWATH_ANSWER_SECOND] = second;
     return reads_as(board, words, want, NULL);
+}
+
+static int refused(const struct board *board, size_t words, uint32_t number,
+                   uint32_t place)
+{
+    return refused_with(board, words, number, place, NONE);
 }
 
 static void accepted(void)
 {
     static const uint32_t answer[SUNDERWATH_ANSWER_WORDS] = {
-        0, 0, 2, 0x100, 0, 0, 8, 15, 31, 1};
+        0, 0, 2, 0x100, 0, 0, 8, 15, 31, 1, NONE};
     static const uint32_t rows[ROWS] = {
         3, 6, 0, 0x100, GAP, 0, GAP, GAP, GAP, 0, GAP, 1,
         4, 5, 0, 0x0,   GAP, 0, GAP, GAP, GAP, 1, GAP, 0};
@@ -165,60 +192,162 @@ static void refusals(void)
     report("7 property range", refused(&board, ROWS, 7, 9));
     whole_case(&board);
     board.nodes[3 * 1 + 2] = 3; /* the name is now "cpu" */
-    report("11 cpu device type", refused(&board, ROWS, 11, 1));
+    report("11 no device type", refused(&board, ROWS, 11, 1));
     whole_case(&board);
     board.props[5 * 3 + 3] = board.props[5 * 2 + 3];
     report("25 cpu repeated", refused(&board, ROWS, 25, 4));
 }
 
+/* A property record's name is cut by a byte, so that it is missing. */
+static void missing(const char *name, uint32_t prop, uint32_t number,
+                    uint32_t place)
+{
+    struct board board;
+
+    whole_case(&board);
+    board.props[5 * prop + 2]--;
+    report(name, refused(&board, ROWS, number, place));
+}
+
+/* A property record's value is cut by a byte. */
+static void cut(const char *name, uint32_t prop, uint32_t number,
+                uint32_t place)
+{
+    struct board board;
+
+    whole_case(&board);
+    board.props[5 * prop + 4]--;
+    report(name, refused_with(&board, ROWS, number, place, prop));
+}
+
+/* The last byte of a property record's value is changed. */
+static void changed(const char *name, uint32_t prop, uint8_t byte,
+                    uint32_t number, uint32_t place)
+{
+    struct board board;
+    const uint32_t *words = board.props + 5 * prop;
+
+    whole_case(&board);
+    board.pool[words[3] + words[4] - 1] = byte;
+    report(name, refused_with(&board, ROWS, number, place, prop));
+}
+
+/* The property records are those of the whole case, in its order. */
+static void second_places(void)
+{
+    struct board board;
+
+    whole_case(&board);
+    board.nodes[2] = 3; /* the name is now "cpu" */
+    board.props[2]--;
+    report("9 name and cells", refused(&board, ROWS, 9, 0));
+    missing("36 no #address-cells", 0, 36, 0);
+    cut("36 #address-cells cut", 0, 36, 0);
+    changed("36 #address-cells 3", 0, 3, 36, 0);
+    missing("37 no #size-cells", 1, 37, 0);
+    cut("37 #size-cells cut", 1, 37, 0);
+    changed("37 #size-cells 1", 1, 1, 37, 0);
+    missing("11 no device_type", 7, 11, 6);
+    cut("11 device_type cut", 7, 11, 6);
+    changed("11 device_type cpux", 4, 'x', 11, 5);
+    missing("12 no reg", 8, 12, 6);
+    cut("12 reg cut", 5, 12, 5);
+    missing("17 no phandle", 6, 17, 5);
+    cut("17 phandle cut", 9, 17, 6);
+    changed("17 phandle repeated", 9, 1, 17, 6);
+    missing("24 no cpu", 3, 24, 4);
+    cut("24 cpu cut", 2, 24, 3);
+    changed("24 cpu 9", 3, 9, 24, 4);
+}
+
+/* 36 on width 32, and a bit of reg outside the affinity bits. */
+static void other_second_places(void)
+{
+    struct board board;
+
+    whole_case(&board);
+    board.width = 32;
+    board.pool[board.props[3] + 3] = 2;
+    report("36 two cells on width 32", refused_with(&board, ROWS, 36, 0, 0));
+    whole_case(&board);
+    board.pool[board.props[5 * 8 + 3]] = 1;
+    report("12 reg with bit 24", refused_with(&board, ROWS, 12, 6, 8));
+    whole_case(&board);
+    board.pool[board.props[5 * 8 + 3] + 2] = 0;
+    report("13 reg repeated", refused(&board, ROWS, 13, 6));
+}
+
+/* With a short answer read_tables and check_tables write nothing. */
 static int writes_nothing(const struct board *board)
 {
-    uint32_t rows[ROWS], answer[SUNDERWATH_ANSWER_WORDS];
-    size_t words, i;
+    uint32_t rows[ROWS + 2 * GUARD], answer[ANSWER_ROOM];
+    size_t words;
     int good = 1;
 
+    memset(rows, 0xA5, sizeof rows);
+    memset(answer, 0xA5, sizeof answer);
     for (words = 0; words < SUNDERWATH_ANSWER_WORDS; words++) {
-        memset(rows, 0xA5, sizeof rows);
-        memset(answer, 0xA5, sizeof answer);
         good &= sunderwath_read_tables(
                     board->width, board->nodes, board->n, board->props,
-                    board->p, board->pool, board->bytes, rows, ROWS, answer,
+                    board->p, board->pool, board->bytes, rows + GUARD, ROWS,
+                    answer + GUARD, words) == SUNDERWATH_ANSWER_SPACE;
+        good &= sunderwath_check_tables(
+                    board->width, board->nodes, board->n, board->props,
+                    board->p, board->pool, board->bytes, answer + GUARD,
                     words) == SUNDERWATH_ANSWER_SPACE;
-        for (i = 0; i < ROWS; i++)
-            good &= rows[i] == PATTERN;
-        for (i = 0; i < SUNDERWATH_ANSWER_WORDS; i++)
-            good &= answer[i] == PATTERN;
+        good &= holds(rows, ROWS + 2 * GUARD, NULL, 0);
+        good &= holds(answer, ANSWER_ROOM, NULL, 0);
     }
     return good;
+}
+
+/* Rules 1 to 8 alone have no second place. */
+static int checks_as(const struct board *board, uint32_t number, uint32_t place)
+{
+    uint32_t want[SUNDERWATH_ANSWER_WORDS] = {number, place};
+    uint32_t answer[ANSWER_ROOM];
+    uint32_t told;
+
+    want[SUNDERWATH_ANSWER_SECOND] = NONE;
+    memset(answer, 0xA5, sizeof answer);
+    told = sunderwath_check_tables(board->width, board->nodes, board->n,
+                                   board->props, board->p, board->pool,
+                                   board->bytes, answer + GUARD,
+                                   SUNDERWATH_ANSWER_WORDS + 1);
+    return told == number &&
+           holds(answer, ANSWER_ROOM, want, SUNDERWATH_ANSWER_WORDS);
+}
+
+static uint32_t find(const struct board *board, uint32_t node, const char *name)
+{
+    return sunderwath_find_property(board->props, board->p, board->pool,
+                                    board->bytes, node, (const uint8_t *)name,
+                                    strlen(name));
 }
 
 static void test_calls(void)
 {
     struct board board;
-    uint32_t answer[SUNDERWATH_ANSWER_WORDS];
-    uint32_t number;
 
     whole_case(&board);
     report("49 answer space", writes_nothing(&board));
-    number = sunderwath_check_tables(board.width, board.nodes, board.n,
-                                     board.props, board.p, board.pool,
-                                     board.bytes, answer,
-                                     SUNDERWATH_ANSWER_WORDS);
-    report("check_tables", number == 0 && answer[0] == 0 && answer[1] == 0);
-    report("find_property",
-           sunderwath_find_property(board.props, board.p, board.pool,
-                                    board.bytes, 6, (const uint8_t *)"reg",
-                                    3) == 8);
-    report("find_property, none",
-           sunderwath_find_property(board.props, board.p, board.pool,
-                                    board.bytes, 2, (const uint8_t *)"reg",
-                                    3) == SUNDERWATH_NONE);
+    report("check_tables", checks_as(&board, 0, 0));
+    report("find_property", find(&board, 6, "reg") == 8);
+    report("find_property, none", find(&board, 2, "reg") == NONE);
+    board.nodes[2] = 3; /* no rule of check_tables */
+    report("check_tables, name", checks_as(&board, 0, 0));
+    board.props[5 * 9 + 4] = 0xFFFFFFFF;
+    report("check_tables, 7", checks_as(&board, 7, 9));
+    board.width = 5;
+    report("49 before 1", writes_nothing(&board));
 }
 
 int main(void)
 {
     accepted();
     refusals();
+    second_places();
+    other_second_places();
     test_calls();
     printf("%d different\n", failures);
     return failures == 0 ? 0 : 1;

@@ -167,23 +167,43 @@ static void refusals(void)
            refused(&blob, SUNDERWATH_BLOB_STRUCTURE, 72));
 }
 
-/* The tables go on to read_tables, with the blob as their pool. */
+/* The tables go on to read_tables, with the blob as their pool. It tells a
+ * number of record 0, and the property record that is wrong. */
+static int goes_on(const struct blob *blob, uint32_t number, uint32_t second)
+{
+    uint32_t nodes[WORDS], props[WORDS], rows[1];
+    uint32_t told[SUNDERWATH_FLAT_ANSWER_WORDS];
+    uint32_t answer[SUNDERWATH_ANSWER_WORDS];
+    uint32_t want[SUNDERWATH_ANSWER_WORDS] = {number};
+
+    want[SUNDERWATH_ANSWER_SECOND] = second;
+    if (sunderwath_read_flat(blob->bytes, blob->n, nodes, WORDS, props, WORDS,
+                             told, SUNDERWATH_FLAT_ANSWER_WORDS) != 0)
+        return 0;
+    return sunderwath_read_tables(
+               64, nodes, SUNDERWATH_NODE_WORDS * (size_t)told[2], props,
+               SUNDERWATH_PROPERTY_WORDS * (size_t)told[3], blob->bytes,
+               blob->n, rows, 0, answer, SUNDERWATH_ANSWER_WORDS) == number &&
+           memcmp(answer, want, sizeof want) == 0;
+}
+
 static void joined(void)
 {
-    uint32_t nodes[6], props[10], rows[1], told[SUNDERWATH_FLAT_ANSWER_WORDS];
-    uint32_t answer[SUNDERWATH_ANSWER_WORDS];
+    static const uint8_t two[4] = {0, 0, 0, 2};
     struct blob blob;
-    uint32_t number;
 
     small(&blob);
-    number = sunderwath_read_flat(blob.bytes, blob.n, nodes, 6, props, 10, told,
-                                  SUNDERWATH_FLAT_ANSWER_WORDS);
-    report("read_flat", number == 0 && told[2] == 2 && told[3] == 2);
-    number = sunderwath_read_tables(
-        64, nodes, SUNDERWATH_NODE_WORDS * (size_t)told[2], props,
-        SUNDERWATH_PROPERTY_WORDS * (size_t)told[3], blob.bytes, blob.n, rows,
-        0, answer, SUNDERWATH_ANSWER_WORDS);
-    report("read_tables on its tables", number == SUNDERWATH_CPUS_NODE);
+    report("36 no #address-cells", goes_on(&blob, 36, SUNDERWATH_NONE));
+    start_blob(&blob);
+    put_begin(&blob, "cpus");
+    put_prop(&blob, "reg", "abc", 3);
+    put_prop(&blob, "#size-cells", two, 4);
+    put_prop(&blob, "#address-cells", two, 4);
+    put_word(&blob, END_NODE);
+    put_word(&blob, END_NODE);
+    put_word(&blob, END);
+    finish_blob(&blob);
+    report("37 #size-cells 2", goes_on(&blob, 37, 1));
 }
 
 int main(void)

@@ -100,7 +100,7 @@ static int check_hash(const struct hash_case *c)
         e->number,    e->place,     0,
         (uint32_t)e->mask, (uint32_t)(e->mask >> 32),
         e->shifts[0], e->shifts[1], e->shifts[2], e->shifts[3],
-        e->bits,
+        e->bits,      SUNDERWATH_NONE,
     };
     uint32_t number;
 
@@ -111,21 +111,21 @@ static int check_hash(const struct hash_case *c)
            memcmp(answer, want, sizeof want) == 0;
 }
 
-/* Number, place and slot of one question. */
+/* Number, place and slot of one question; there is no second place. */
 static int check_slot(uint64_t mpidr, const uint64_t *list, size_t n,
                       uint32_t number, uint32_t place, uint32_t slot)
 {
     uint32_t room[ROOM];
     uint32_t *answer = room + GUARD;
+    uint32_t want[SUNDERWATH_ANSWER_WORDS] = {number, place, slot};
     uint32_t told;
 
+    want[SUNDERWATH_ANSWER_SECOND] = SUNDERWATH_NONE;
     fill(room, ROOM);
     told = sunderwath_list_slot(mpidr, list, n, answer,
                                 SUNDERWATH_ANSWER_WORDS);
     return told == number && guards_kept(room) &&
-           answer[SUNDERWATH_ANSWER_NUMBER] == number &&
-           answer[SUNDERWATH_ANSWER_PLACE] == place &&
-           answer[SUNDERWATH_ANSWER_COUNT] == slot;
+           memcmp(answer, want, sizeof want) == 0;
 }
 
 static int check_slots(const struct hash_case *c)
@@ -157,6 +157,26 @@ static int check_short_answer(const uint64_t *list, size_t n)
     return good;
 }
 
+/* Longer answers: exactly the stated words are written. */
+static int check_long_answer(const uint64_t *list, size_t n)
+{
+    uint32_t room[ROOM];
+    size_t words, i;
+    int good = 1;
+
+    for (words = SUNDERWATH_ANSWER_WORDS; words <= ROOM; words++) {
+        fill(room, ROOM);
+        good &= sunderwath_list_hash(list, n, room, words) == 0;
+        good &= room[SUNDERWATH_ANSWER_SECOND] == SUNDERWATH_NONE;
+        room[SUNDERWATH_ANSWER_SECOND] = PATTERN;
+        good &= sunderwath_list_slot(list[0], list, n, room, words) == 0;
+        good &= room[SUNDERWATH_ANSWER_SECOND] == SUNDERWATH_NONE;
+        for (i = SUNDERWATH_ANSWER_WORDS; i < ROOM; i++)
+            good &= room[i] == PATTERN;
+    }
+    return good;
+}
+
 int main(void)
 {
     size_t i;
@@ -174,6 +194,7 @@ int main(void)
            check_slot(0x80000000, h7, COUNT(h7), 30, 0, 0));
     report("49", "both", check_short_answer(h2, COUNT(h2)));
     report("49 empty", "both", check_short_answer(h2, 0));
+    report("longer", "both", check_long_answer(h2, COUNT(h2)));
     printf("%d different\n", failures);
     return failures == 0 ? 0 : 1;
 }

@@ -1,12 +1,16 @@
-//! The ten words that every call of the library answers with.
+//! The eleven words that the calls of the library answer with, and the four of
+//! read_flat.
 
 /// Words in an answer.
-pub const ANSWER_WORDS: usize = 10;
+pub const ANSWER_WORDS: usize = 11;
 
-/// Told when the lent answer has fewer than ten words.
+/// The second place of an answer that speaks of no property record.
+pub const NO_PROPERTY: u32 = u32::MAX;
+
+/// Told when the lent answer has fewer words than stated.
 pub const SHORT_ANSWER: u32 = 49;
 
-#[derive(Clone, Copy, Debug, Default, PartialEq, Eq)]
+#[derive(Clone, Copy, Debug, PartialEq, Eq)]
 pub struct Answer {
     pub number: u32,
     pub place: u32,
@@ -15,16 +19,40 @@ pub struct Answer {
     pub mask: u64,
     pub shifts: [u32; 4],
     pub bits: u32,
+    /// The second place: the property record that a refusal speaks of, or
+    /// NO_PROPERTY.
+    pub second: u32,
+}
+
+/// Acceptance, with nothing counted.
+impl Default for Answer {
+    fn default() -> Answer {
+        Answer {
+            number: 0,
+            place: 0,
+            count: 0,
+            mask: 0,
+            shifts: [0; 4],
+            bits: 0,
+            second: NO_PROPERTY,
+        }
+    }
 }
 
 impl Answer {
-    /// A refusal holds number and place and nothing else.
+    /// A refusal that speaks of no property holds number and place and nothing
+    /// else.
     pub fn refusal(number: u32, place: usize) -> Answer {
         Answer {
             number,
             place: place as u32,
             ..Answer::default()
         }
+    }
+
+    /// The same answer with a property record, or NO_PROPERTY, as second place.
+    pub fn of_property(self, second: u32) -> Answer {
+        Answer { second, ..self }
     }
 
     pub fn words(&self) -> [u32; ANSWER_WORDS] {
@@ -42,6 +70,7 @@ impl Answer {
             c,
             d,
             self.bits,
+            self.second,
         ]
     }
 
@@ -53,6 +82,7 @@ impl Answer {
             mask: u64::from(words[4]) << 32 | u64::from(words[3]),
             shifts: [words[5], words[6], words[7], words[8]],
             bits: words[9],
+            second: words[10],
         }
     }
 }

@@ -145,6 +145,7 @@ impl Files {
         self.word(board.width);
         self.told(&format!("\n{label}: number "), answer.number);
         self.answer(&answer, ", count ", &answer);
+        self.told(", second place ", answer.second);
         rows.resize(room, UNTOUCHED);
         for (at, word) in rows.iter().enumerate() {
             let starts = at == 0 || accepted && at % ROW_WORDS == 0;

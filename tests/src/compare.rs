@@ -82,9 +82,9 @@ fn report(board: &Board, differs: fn(&Board, &Wanted) -> Option<String>) -> Stri
     format!("{what}\nboard (long_run --replay FILE reads it):\n{board}")
 }
 
-/// The number told, or the report of a disagreement.
+/// The answer that all readers give, or the report of a disagreement.
 #[cfg(feature = "board")]
-pub fn compare(board: &Board) -> Result<u32, String> {
+pub fn compare(board: &Board) -> Result<Answer, String> {
     let told = wanted(board);
     if library_differs(board, &told).is_some() {
         return Err(report(board, library_differs));
@@ -92,14 +92,14 @@ pub fn compare(board: &Board) -> Result<u32, String> {
     if fast_differs(board, &told).is_some() {
         return Err(report(board, fast_differs));
     }
-    Ok(told.0.number)
+    Ok(told.0)
 }
 
 /// The same without the library.
-pub fn compare_fast(board: &Board) -> Result<u32, String> {
+pub fn compare_fast(board: &Board) -> Result<Answer, String> {
     let told = wanted(board);
     match fast_differs(board, &told) {
         Some(_) => Err(report(board, fast_differs)),
-        None => Ok(told.0.number),
+        None => Ok(told.0),
     }
 }

@@ -171,10 +171,14 @@ pub fn read_flat_into(
     }
 }
 
-/// Runs a call with an answer of ten words and checks the number given back.
+/// Runs a call with an answer of eleven words, and checks the number given back
+/// and the words before and behind the answer.
 fn answered(call: impl FnOnce(&mut [u32]) -> u32) -> Answer {
-    let mut words = [0xA5A5_A5A5; ANSWER_WORDS];
-    let number = call(&mut words);
+    const MARK: u32 = 0xA5A5_A5A5;
+    let mut lent = [MARK; ANSWER_WORDS + 2];
+    let number = call(&mut lent[1..=ANSWER_WORDS]);
+    let [before, words @ .., behind] = lent;
+    assert_eq!([before, behind], [MARK; 2], "words around the answer");
     assert_eq!(number, words[0], "number given back and number written");
     Answer::from_words(&words)
 }

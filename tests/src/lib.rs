@@ -7,6 +7,7 @@ pub mod cases;
 pub mod compare;
 #[cfg(feature = "flat")]
 pub mod compare_flat;
+pub mod counts;
 pub mod fast;
 #[cfg(feature = "fdt")]
 pub mod fdt;

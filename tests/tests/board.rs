@@ -4,21 +4,18 @@ use sunderwath_tests::answer::{Answer, ANSWER_WORDS, SHORT_ANSWER};
 use sunderwath_tests::build::faults::{self, rename, with_faults, Fault};
 use sunderwath_tests::build::mix::{any_board, large_board};
 use sunderwath_tests::build::order::{self, children_named};
+use sunderwath_tests::build::property_faults::second_place;
 use sunderwath_tests::build::shapes::{fill_up, regular_board, valid_board};
 use sunderwath_tests::build::small::{maps_in_order, maps_with_choices};
 use sunderwath_tests::build::worked::{self, cores, cpu_node, cpus_node, group, leaf, nested};
 use sunderwath_tests::build::{cell, text, Board, Node};
 use sunderwath_tests::compare::{compare, library};
+use sunderwath_tests::counts::{numbers, Counts};
 use sunderwath_tests::rng::Rng;
 use sunderwath_tests::{ffi, second};
 
 const GAP: u32 = u32::MAX;
 const GUARD: usize = 16;
-
-/// Numbers 1 to 27 without 14.
-fn numbers() -> impl Iterator<Item = usize> {
-    (1..=27).filter(|&number| number != 14)
-}
 
 /// Compares all readers and gives the answer and the rows of the library.
 fn agreed(board: &Board) -> (Answer, Vec<u32>) {
@@ -31,10 +28,14 @@ fn agreed(board: &Board) -> (Answer, Vec<u32>) {
 }
 
 fn expect(width: u32, root: &Node, number: u32, place: usize) {
-    let board = Board::of(width, root);
-    let (answer, _) = agreed(&board);
-    let told = (answer.number, answer.place as usize);
-    assert_eq!(told, (number, place), "{}", text::write(&board));
+    expect_board(&Board::of(width, root), number, place);
+}
+
+fn expect_board(board: &Board, number: u32, place: usize) {
+    let (answer, _) = agreed(board);
+    let told = (answer.number, answer.place as usize, answer.second);
+    let wanted = (number, place, second_place(board, number, place));
+    assert_eq!(told, wanted, "{}", text::write(board));
 }
 
 fn record(root: &Node, path: &[&str]) -> usize {
@@ -229,25 +230,19 @@ fn names() {
 fn each_number_and_pairs_of_faults() {
     expect(64, &faults::base(), 0, 0);
     let faults = faults::faults();
-    let mut hit = [0; 28];
     for fault in &faults {
-        let board = with_faults(&[fault]);
-        let (answer, _) = agreed(&board);
-        let told = (answer.number, answer.place as usize);
-        let wanted = (fault.number, fault.place);
-        assert_eq!(told, wanted, "{}", text::write(&board));
-        hit[fault.number as usize] += 1;
+        expect_board(&with_faults(&[fault]), fault.number, fault.place);
     }
-    assert!(numbers().all(|number| hit[number] > 0));
+    assert!(numbers().all(|number| faults.iter().any(|fault| fault.number == number)));
     let key = |f: &Fault| (second::stage_of(f.number), f.place, f.number);
     let mut pairs = 0;
     for first in &faults {
         for second in &faults {
             let board = with_faults(&[first, second]);
-            let (answer, _) = agreed(&board);
             // A sound cpu node made by 26 keeps 10 from being broken.
             let both = (first.number, second.number);
             if matches!(both, (10, 26) | (26, 10)) {
+                agreed(&board);
                 continue;
             }
             let wanted = if key(first) < key(second) {
@@ -255,13 +250,7 @@ fn each_number_and_pairs_of_faults() {
             } else {
                 second
             };
-            let told = (answer.number, answer.place as usize);
-            assert_eq!(
-                told,
-                (wanted.number, wanted.place),
-                "{both:?}\n{}",
-                text::write(&board)
-            );
+            expect_board(&board, wanted.number, wanted.place);
             pairs += 1;
         }
     }
@@ -485,35 +474,44 @@ fn maps_in_odd_places() {
 
 #[test]
 fn cells_and_widths() {
-    for (width, cells, number) in [(32, 1, 0), (64, 1, 0), (32, 2, 9), (64, 2, 0)] {
+    for (width, cells, number) in [(32, 1, 0), (64, 1, 0), (32, 2, 36), (64, 2, 0)] {
         let mut root = cpus_node(cells);
         let map = Node::new("cpu-map").child(group("cluster", 0, vec![leaf("core0", 1)]));
         root.children = vec![map, cpu_node(cells, 5, 1)];
         expect(width, &root, number, 0);
     }
     let spoilt: [(&str, &[u8], u32); 10] = [
-        ("#address-cells", &[], 9),
-        ("#address-cells", &[0, 0, 1], 9),
-        ("#address-cells", &[0, 0, 0, 1, 0], 9),
-        ("#address-cells", &[1, 0, 0, 0], 9),
-        ("#address-cells", &[0, 0, 1, 1], 9),
-        ("#address-cells", &[0, 0, 0, 0], 9),
-        ("#address-cells", &[0, 0, 0, 3], 9),
-        ("#size-cells", &[], 9),
-        ("#size-cells", &[0, 0, 0], 9),
-        ("#size-cells", &[0, 0, 0, 0, 0], 9),
+        ("#address-cells", &[], 36),
+        ("#address-cells", &[0, 0, 1], 36),
+        ("#address-cells", &[0, 0, 0, 1, 0], 36),
+        ("#address-cells", &[1, 0, 0, 0], 36),
+        ("#address-cells", &[0, 0, 1, 1], 36),
+        ("#address-cells", &[0, 0, 0, 0], 36),
+        ("#address-cells", &[0, 0, 0, 3], 36),
+        ("#size-cells", &[], 37),
+        ("#size-cells", &[0, 0, 0], 37),
+        ("#size-cells", &[0, 0, 0, 0, 0], 37),
     ];
     for (name, value, number) in spoilt {
         let mut root = cores(&[0]);
         root.set(name, value);
         expect(64, &root, number, 0);
     }
-    for name in ["#address-cells", "#size-cells"] {
+    for (name, number) in [("#address-cells", 36), ("#size-cells", 37)] {
         let mut root = cores(&[0]);
         root.remove(name);
+        expect(64, &root, number, 0);
+    }
+    for name in ["cpu", "cpus@0", "Cpus", "cpus0"] {
+        let mut root = cores(&[0]);
+        rename(&mut root, 0, name);
         expect(64, &root, 9, 0);
     }
-    // Every single bit of reg, with one and with two cells.
+}
+
+/// With one and with two cells.
+#[test]
+fn every_bit_of_reg() {
     for cells in [1u32, 2] {
         for at in 0..32 * cells {
             let allowed = at < 24 || (32..40).contains(&at);
@@ -642,9 +640,12 @@ fn row_buffers() {
 fn answer_lengths() {
     const PATTERN: u32 = 0xDEAD_BEEF;
     let refused = Board::of(64, &worked::example_3());
-    for board in [Board::of(64, &worked::whole_case()), refused] {
+    let mut root = worked::whole_case();
+    root.at(6).set("reg", []);
+    let with_second = Board::of(64, &root);
+    for board in [Board::of(64, &worked::whole_case()), refused, with_second] {
         let (answer, rows) = agreed(&board);
-        for length in 0..=12 {
+        for length in 0..=13 {
             let mut buffer = [PATTERN; 20];
             let mut lent_rows = [PATTERN; 30];
             let lent = &mut buffer[4..4 + length];
@@ -662,7 +663,7 @@ fn answer_lengths() {
                 assert_eq!(number, SHORT_ANSWER);
             } else {
                 assert_eq!(number, answer.number);
-                wanted[4..14].copy_from_slice(&answer.words());
+                wanted[4..4 + ANSWER_WORDS].copy_from_slice(&answer.words());
                 wanted_rows[..rows.len()].copy_from_slice(&rows);
             }
             assert_eq!(buffer, wanted);
@@ -673,10 +674,14 @@ fn answer_lengths() {
 
 #[test]
 fn small_maps() {
-    let mut counts = [0u32; 28];
-    let mut job = |board: Board| match compare(&board) {
-        Ok(number) => counts[number as usize] += 1,
-        Err(report) => panic!("{report}"),
+    let mut counts = Counts::default();
+    let mut all = 0;
+    let mut job = |board: Board| {
+        all += 1;
+        match compare(&board) {
+            Ok(answer) => counts.add(&answer),
+            Err(report) => panic!("{report}"),
+        }
     };
     for count in 0..=4 {
         maps_in_order(count, &mut job);
@@ -684,8 +689,7 @@ fn small_maps() {
     for count in 1..=3 {
         maps_with_choices(count, &mut job);
     }
-    let all: u32 = counts.iter().sum();
-    println!("{all} small maps, accepted {}: {counts:?}", counts[0]);
+    println!("{all} small maps:\n{}", counts.lines());
 }
 
 #[test]
@@ -710,7 +714,7 @@ fn sound_boards() {
 fn mixed_boards() {
     let seed = 0xB0A2_D500;
     let mut rng = Rng::new(seed);
-    let mut counts = [0u32; 28];
+    let mut counts = Counts::default();
     let boards = 60_000;
     for at in 0..boards {
         let board = if at % 2000 == 0 {
@@ -719,10 +723,10 @@ fn mixed_boards() {
             any_board(&mut rng)
         };
         match compare(&board) {
-            Ok(number) => counts[number as usize] += 1,
+            Ok(answer) => counts.add(&answer),
             Err(report) => panic!("seed {seed:#x}, board {at}:\n{report}"),
         }
     }
-    println!("{boards} mixed boards, seed {seed:#x}, by number: {counts:?}");
-    assert!(numbers().all(|number| counts[number] > 0));
+    println!("{boards} mixed boards, seed {seed:#x}:\n{}", counts.lines());
+    assert!(counts.of(0) > 0 && counts.complete());
 }

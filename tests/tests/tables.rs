@@ -397,7 +397,7 @@ fn answer_lengths() {
     refused.nodes[3] = 7;
     for board in [base(), refused] {
         let answer = compare(&board);
-        for length in 0..=12 {
+        for length in 0..=13 {
             let mut buffer = [PATTERN; 20];
             let lent = &mut buffer[4..4 + length];
             let number =
@@ -406,7 +406,7 @@ fn answer_lengths() {
             if length < ANSWER_WORDS {
                 assert_eq!(number, SHORT_ANSWER);
             } else {
-                wanted[4..14].copy_from_slice(&answer.words());
+                wanted[4..4 + ANSWER_WORDS].copy_from_slice(&answer.words());
             }
             assert_eq!(buffer, wanted);
         }

@@ -8,6 +8,7 @@ use std::time::Instant;
 use sunderwath_tests::build::mix::{any_board, large_board};
 use sunderwath_tests::build::text;
 use sunderwath_tests::compare::{compare, library, second_tables};
+use sunderwath_tests::counts::Counts;
 use sunderwath_tests::rng::Rng;
 use sunderwath_tests::second;
 
@@ -48,12 +49,12 @@ fn replay(file: &str) -> Result<(), String> {
     let board = text::read(&content).map_err(|e| format!("{file}: {e}"))?;
     println!("library       {:?}", library(&board).0);
     println!("second reader {:?}", second::read(&second_tables(&board)).0);
-    compare(&board).map(|number| println!("the readers agree on {number}"))
+    compare(&board).map(|answer| println!("the readers agree on {}", answer.number))
 }
 
 fn run(options: &Options) -> Result<(), String> {
     let mut rng = Rng::new(options.seed);
-    let mut counts = [0u64; 28];
+    let mut counts = Counts::default();
     let start = Instant::now();
     println!("{} boards, seed {:#x}", options.boards, options.seed);
     for at in 0..options.boards {
@@ -63,14 +64,12 @@ fn run(options: &Options) -> Result<(), String> {
             any_board(&mut rng)
         };
         let told = compare(&board).map_err(|report| format!("board {at}:\n{report}"))?;
-        counts[told as usize] += 1;
+        counts.add(&told);
         if (at + 1) % 250_000 == 0 {
             println!("{} boards after {:?}", at + 1, start.elapsed());
         }
     }
-    for (number, count) in counts.iter().enumerate() {
-        println!("number {number:>2}: {count}");
-    }
+    println!("{}", counts.lines());
     println!("no disagreement on {} boards", options.boards);
     Ok(())
 }

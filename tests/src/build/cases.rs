@@ -2,9 +2,11 @@
 
 use super::faults::{faults, with_faults};
 use super::order::{self, children_named};
+use super::property_faults;
 use super::shapes::{fill_up, regular_board};
 use super::worked::{self, cores, leaf, nested};
 use super::{cell, Board, Node};
+use crate::rng::Rng;
 
 pub type Case = (String, Board);
 
@@ -73,6 +75,8 @@ pub fn boards() -> Vec<Case> {
         limits(),
         rules(),
         orders(),
+        properties(),
+        cpus_node_faults().into(),
     ];
     groups.into_iter().flatten().collect()
 }
@@ -223,5 +227,34 @@ fn orders() -> Vec<Case> {
             &["core2", "core0"],
         ),
         named("W1 core1 beside a nameless sibling", &["core1", "x"]),
+    ]
+}
+
+/// A missing property, a wrong length and a wrong value for each number that has
+/// a second place. The properties stand in some fixed order.
+fn properties() -> Vec<Case> {
+    let mut cases = Vec::new();
+    for needed in &property_faults::NEEDED {
+        let faults = property_faults::faults().into_iter();
+        let of_number = faults.filter(|fault| fault.needed.number == needed.number);
+        for fault in of_number.take(3) {
+            let mut order = Rng::new(cases.len() as u64);
+            let board = Board::shuffled(fault.width, &fault.tree(), &mut order);
+            cases.push((format!("W3 {} {}", needed.name, fault.what), board));
+        }
+    }
+    cases
+}
+
+/// Several faults of record 0: the name is told first, then `#address-cells`.
+fn cpus_node_faults() -> [Case; 2] {
+    let cells = property_faults::base()
+        .with("#address-cells", [0, 0, 1])
+        .with("#size-cells", cell(1));
+    let mut name = cells.clone();
+    name.name = b"cpus@0".to_vec();
+    [
+        case("W3 name and both cell counts of record 0", 64, &name),
+        case("W3 both cell counts of record 0", 64, &cells),
     ]
 }

@@ -1,5 +1,6 @@
 //! Changes that damage boards: to the tree, to the tables, and plain garbage.
 
+use super::property_faults::NEEDED;
 use super::{cell, Board, Node};
 use crate::rng::Rng;
 
@@ -48,7 +49,7 @@ const PROPS: [&str; 10] = [
 /// One change to a tree.
 pub fn spoil_tree(rng: &mut Rng, root: &mut Node) {
     let record = rng.below(root.count());
-    match rng.below(16) {
+    match rng.below(17) {
         0 | 1 => root.at(record).name = rng.pick(&NAMES).as_bytes().to_vec(),
         2 => remove_property(rng, root.at(record)),
         3 | 4 => spoil_value(rng, root.at(record)),
@@ -62,6 +63,7 @@ pub fn spoil_tree(rng: &mut Rng, root: &mut Node) {
         12 => copy_value(rng, root),
         13 => wrap_children(rng, root),
         14 => renumber_sibling(rng, root),
+        15 => spoil_needed(rng, root),
         _ => renumber(rng, root.at(record)),
     }
 }
@@ -78,7 +80,10 @@ fn spoil_value(rng: &mut Rng, node: &mut Node) {
         return;
     }
     let at = rng.below(node.props.len());
-    let value = &mut node.props[at].1;
+    spoil_bytes(rng, &mut node.props[at].1);
+}
+
+fn spoil_bytes(rng: &mut Rng, value: &mut Vec<u8>) {
     match rng.below(7) {
         0 => *value = cell(*rng.pick(&[0, 1, 2, 3, 0xFF, 0x100, u32::MAX])),
         1 => value.push(rng.byte()),
@@ -92,6 +97,30 @@ fn spoil_value(rng: &mut Rng, node: &mut Node) {
             value[byte] ^= 1 << rng.below(8);
         }
     }
+}
+
+/// Removes or spoils a property that rules ask for of some nodes.
+fn spoil_needed(rng: &mut Rng, root: &mut Node) {
+    let name = rng.pick(&NEEDED).name;
+    let owners = owners(root, name);
+    if owners.is_empty() {
+        return;
+    }
+    let node = root.at(*rng.pick(&owners));
+    let mut value = node.get(name).unwrap_or_default().to_vec();
+    if rng.one_in(3) {
+        node.remove(name);
+    } else {
+        spoil_bytes(rng, &mut value);
+        node.set(name, value);
+    }
+}
+
+/// The records of the nodes that have a property.
+fn owners(root: &mut Node, name: &str) -> Vec<usize> {
+    let all = 0..root.count();
+    all.filter(|&record| root.at(record).get(name).is_some())
+        .collect()
 }
 
 fn rename_property(rng: &mut Rng, node: &mut Node) {
@@ -158,10 +187,7 @@ fn insert_node(rng: &mut Rng, node: &mut Node) {
 /// Copies a property's value from one node to another that has it too.
 fn copy_value(rng: &mut Rng, root: &mut Node) {
     let name = *rng.pick(&["reg", "phandle", "cpu"]);
-    let all = 0..root.count();
-    let owners: Vec<usize> = all
-        .filter(|&record| root.at(record).get(name).is_some())
-        .collect();
+    let owners = owners(root, name);
     if !owners.is_empty() {
         let from = root.at(*rng.pick(&owners)).get(name).map(<[u8]>::to_vec);
         let to = root.at(*rng.pick(&owners));

@@ -136,19 +136,19 @@ fn of_cpus() -> Vec<Row> {
     let no_cpus: fn(&mut Node) = |r| CPU_RECORDS.iter().for_each(|&c| rename(r, c, "x"));
     let repeated: fn(&mut Node) = |r| r.at(23).set("reg", [0, 0, 0, 0, 0, 0, 0, 1]);
     vec![
+        (9, 0, "record 0 named cpu", Tree(|r| rename(r, 0, "cpu"))),
         (
-            9,
-            0,
-            "#size-cells 1",
-            Tree(|r| r.set("#size-cells", cell(1))),
-        ),
-        (
-            9,
+            36,
             0,
             "#address-cells 3",
             Tree(|r| r.set("#address-cells", cell(3))),
         ),
-        (9, 0, "record 0 named cpu", Tree(|r| rename(r, 0, "cpu"))),
+        (
+            37,
+            0,
+            "#size-cells 1",
+            Tree(|r| r.set("#size-cells", cell(1))),
+        ),
         (10, 0, "no cpu record", Tree(no_cpus)),
         (
             11,

@@ -15,6 +15,7 @@ pub mod flat_trees;
 pub mod mix;
 pub mod order;
 pub mod overlap;
+pub mod property_faults;
 pub mod shapes;
 pub mod shrink;
 pub mod small;
@@ -66,6 +67,13 @@ impl Node {
         match self.props.iter_mut().find(|(n, _)| n == name.as_bytes()) {
             Some((_, old)) => *old = value,
             None => self.props.push((name.as_bytes().to_vec(), value)),
+        }
+    }
+
+    /// Adds a property, if there is none of that name.
+    pub fn add(&mut self, name: &str, value: impl AsRef<[u8]>) {
+        if self.get(name).is_none() {
+            self.set(name, value);
         }
     }
 
@@ -226,5 +234,15 @@ impl Board {
 
     pub fn prop_count(&self) -> usize {
         self.props.len() / 5
+    }
+
+    /// The property record of a node with a name, on a board that keeps rules 1
+    /// to 8.
+    pub fn property(&self, record: usize, name: &str) -> Option<usize> {
+        self.props.chunks(5).position(|prop| {
+            let from = prop[1] as usize;
+            let bytes = &self.pool[from..from + prop[2] as usize];
+            prop[0] as usize == record && bytes == name.as_bytes()
+        })
     }
 }

@@ -1,5 +1,6 @@
 //! Generators of valid boards of all shapes.
 
+use super::property_faults::NEEDED;
 use super::worked::{cpu_node, cpus_node};
 use super::{cell, Node};
 use crate::rng::Rng;
@@ -200,15 +201,24 @@ fn assemble(rng: &mut Rng, cells: u32, mut map: Node, cpus: Vec<Node>) -> Node {
         }
     }
     if rng.one_in(2) {
-        for _ in 0..rng.below(6) {
-            let record = rng.below(root.count());
-            let name = *rng.pick(&OTHER_PROPS);
-            let value: Vec<u8> = (0..rng.below(10)).map(|_| rng.byte()).collect();
-            root.at(record).set(name, value);
-        }
+        other_properties(rng, &mut root);
     }
     shuffle_properties(rng, &mut root);
     root
+}
+
+/// Properties that no rule asks for, and such as are asked for at other nodes.
+fn other_properties(rng: &mut Rng, root: &mut Node) {
+    for _ in 0..rng.below(10) {
+        let record = rng.below(root.count());
+        let value: Vec<u8> = (0..rng.below(10)).map(|_| rng.byte()).collect();
+        let node = root.at(record);
+        let other = *rng.pick(&OTHER_PROPS);
+        match rng.one_in(2) {
+            true => node.set(other, value),
+            false => node.add(rng.pick(&NEEDED).name, value),
+        }
+    }
 }
 
 /// `cpu` on nodes with children is ignored, so any value may stand there.

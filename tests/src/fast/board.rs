@@ -2,7 +2,7 @@
 
 use super::hash::{layout, slot};
 use super::tables::{check, slice};
-use crate::answer::Answer;
+use crate::answer::{Answer, NO_PROPERTY};
 
 const GAP: u32 = u32::MAX;
 const NONE: u32 = u32::MAX;
@@ -29,7 +29,7 @@ struct Node {
     first_kind: Kind,
     clusters: u32,
     in_map: bool,
-    /// The property records that matter, or NONE.
+    /// The property records that matter, or NO_PROPERTY.
     reg: u32,
     phandle: u32,
     device_type: u32,
@@ -90,7 +90,7 @@ impl<'a> Reader<'a> {
 
     /// The value of a property record, or None where there is none.
     fn value(&self, prop: u32) -> Option<&'a [u8]> {
-        if prop == NONE {
+        if prop == NO_PROPERTY {
             return None;
         }
         let words = &self.props[5 * prop as usize..];
@@ -106,10 +106,10 @@ impl<'a> Reader<'a> {
             first_kind: Kind::Other,
             clusters: 0,
             in_map: false,
-            reg: NONE,
-            phandle: NONE,
-            device_type: NONE,
-            cpu: NONE,
+            reg: NO_PROPERTY,
+            phandle: NO_PROPERTY,
+            device_type: NO_PROPERTY,
+            cpu: NO_PROPERTY,
         };
         let mut reader = Reader {
             nodes,
@@ -117,8 +117,8 @@ impl<'a> Reader<'a> {
             pool,
             facts: vec![none; nodes.len() / 3],
             cpus: Vec::new(),
-            address_cells: NONE,
-            size_cells: NONE,
+            address_cells: NO_PROPERTY,
+            size_cells: NO_PROPERTY,
         };
         reader.sort_properties();
         reader
@@ -140,15 +140,24 @@ impl<'a> Reader<'a> {
         }
     }
 
-    /// 9 and 10; gives the number of address cells back.
-    fn read_cpus_node(&mut self, width: u32) -> Result<usize, Answer> {
-        let cells = self.value(self.address_cells).and_then(cell);
-        let cells = cells.unwrap_or(0) as usize;
-        let most = if width == 32 { 1 } else { 2 };
-        let size = self.value(self.size_cells).and_then(cell);
-        if self.name(0) != b"cpus" || cells == 0 || cells > most || size != Some(0) {
+    /// 9, 36 and 37; gives the number of address cells back.
+    fn read_cpus_node(&self, width: u32) -> Result<usize, Answer> {
+        if self.name(0) != b"cpus" {
             return Err(Answer::refusal(9, 0));
         }
+        let cells = self.value(self.address_cells).and_then(cell).unwrap_or(0);
+        let most = if width == 32 { 1 } else { 2 };
+        if cells == 0 || cells > most {
+            return Err(Answer::refusal(36, 0).of_property(self.address_cells));
+        }
+        if self.value(self.size_cells).and_then(cell) != Some(0) {
+            return Err(Answer::refusal(37, 0).of_property(self.size_cells));
+        }
+        Ok(cells as usize)
+    }
+
+    /// 10.
+    fn list_cpus(&mut self) -> Result<(), Answer> {
         for record in 1..self.facts.len() {
             if self.nodes[3 * record] == 0 {
                 let name = self.name(record);
@@ -165,7 +174,7 @@ impl<'a> Reader<'a> {
         if self.cpus.is_empty() || self.cpus.len() > CPU_LIMIT {
             return Err(Answer::refusal(10, 0));
         }
-        Ok(cells)
+        Ok(())
     }
 
     fn reg(&self, prop: u32, cells: usize) -> Option<u64> {
@@ -182,10 +191,10 @@ impl<'a> Reader<'a> {
             let record = self.cpus[at].record as usize;
             let fact = &self.facts[record];
             if self.value(fact.device_type) != Some(b"cpu\0") {
-                return Err(Answer::refusal(11, record));
+                return Err(Answer::refusal(11, record).of_property(fact.device_type));
             }
             let Some(mpidr) = self.reg(fact.reg, cells) else {
-                return Err(Answer::refusal(12, record));
+                return Err(Answer::refusal(12, record).of_property(fact.reg));
             };
             if self.cpus[..at].iter().any(|cpu| cpu.mpidr == mpidr) {
                 return Err(Answer::refusal(13, record));
@@ -222,11 +231,11 @@ impl<'a> Reader<'a> {
     fn read_phandles(&mut self) -> Result<(), Answer> {
         for at in 0..self.cpus.len() {
             let record = self.cpus[at].record as usize;
-            let phandle = self.value(self.facts[record].phandle).and_then(cell);
-            let phandle = phandle.unwrap_or(0);
+            let prop = self.facts[record].phandle;
+            let phandle = self.value(prop).and_then(cell).unwrap_or(0);
             let taken = self.cpus[..at].iter().any(|cpu| cpu.phandle == phandle);
             if phandle == 0 || phandle == u32::MAX || taken {
-                return Err(Answer::refusal(17, record));
+                return Err(Answer::refusal(17, record).of_property(prop));
             }
             self.cpus[at].phandle = phandle;
         }
@@ -335,6 +344,7 @@ impl<'a> Reader<'a> {
             match self.check_record(record, *earlier) {
                 0 if fact.number == *earlier => *earlier += 1,
                 0 => *earlier = NONE,
+                24 => return Err(Answer::refusal(24, record).of_property(fact.cpu)),
                 number => return Err(Answer::refusal(number, record)),
             }
         }
@@ -399,6 +409,7 @@ fn read(
     check(width, nodes, props, pool)?;
     let mut reader = Reader::new(nodes, props, pool);
     let cells = reader.read_cpus_node(width)?;
+    reader.list_cpus()?;
     reader.read_cpu_nodes(cells)?;
     reader.find_map()?;
     reader.read_phandles()?;
@@ -412,11 +423,10 @@ fn read(
     let (shifts, bits) = layout(mask);
     reader.write_rows(mask, &shifts, rows);
     Ok(Answer {
-        number: 0,
-        place: 0,
         count: reader.cpus.len() as u32,
         mask,
         shifts,
         bits,
+        ..Answer::default()
     })
 }

@@ -10,6 +10,7 @@ mod flat_why;
 mod hash;
 mod rows;
 mod rules;
+mod second_place;
 mod tables;
 
 pub use flat::{flat_answer, flat_tables, read_flat, word_at, FlatTables, Reading, Refusal};
@@ -24,10 +25,7 @@ use crate::answer::Answer;
 /// Rules 1 to 8 alone.
 pub fn check_tables(width: u32, nodes: &[u32], props: &[u32], pool: &[u8]) -> Answer {
     let tables = Tables::new(width, nodes, props, pool, 0);
-    match told(&tables, 8) {
-        Some((place, number)) => Answer::refusal(number, place),
-        None => Answer::default(),
-    }
+    told(&tables, 8).unwrap_or_default()
 }
 
 /// The lowest property of `node` named `name` whose name is in the pool.

@@ -10,8 +10,8 @@ const NO_RULE_AFTER: u32 = 27;
 
 /// The whole job: the answer, and the rows (none in a refusal).
 pub fn read(tables: &Tables) -> (Answer, Vec<u32>) {
-    if let Some((place, number)) = told(tables, NO_RULE_AFTER) {
-        return (Answer::refusal(number, place), Vec::new());
+    if let Some(refusal) = told(tables, NO_RULE_AFTER) {
+        return (refusal, Vec::new());
     }
     let mpidrs: Vec<u64> = tables.cpus().iter().map(|&c| mpidr(tables, c)).collect();
     let mask = hash::mask(&mpidrs);

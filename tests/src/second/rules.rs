@@ -1,6 +1,9 @@
-//! Rules 1 to 27: one predicate for each number, and the stages in order.
+//! Rules 1 to 27, 36 and 37: one predicate for each number, and the stages in
+//! order.
 
+use super::second_place::refusal;
 use super::tables::{cells, Kind, Tables};
+use crate::answer::Answer;
 use std::ops::RangeInclusive;
 
 /// Which places a stage looks at.
@@ -14,7 +17,7 @@ enum Places {
 }
 
 /// The stages in the order of checking, with the numbers that each tells.
-const STAGES: [(RangeInclusive<u32>, Places); 15] = [
+const STAGES: [(RangeInclusive<u32>, Places); 17] = [
     (1..=1, Places::Zero),
     (2..=2, Places::Zero),
     (3..=3, Places::Zero),
@@ -22,6 +25,8 @@ const STAGES: [(RangeInclusive<u32>, Places); 15] = [
     (5..=6, Places::Records),
     (7..=8, Places::Properties),
     (9..=9, Places::Zero),
+    (36..=36, Places::Zero),
+    (37..=37, Places::Zero),
     (10..=10, Places::Zero),
     (11..=13, Places::Cpus),
     (15..=15, Places::Zero),
@@ -39,17 +44,15 @@ pub fn stage_of(number: u32) -> Option<usize> {
         .position(|(numbers, _)| numbers.contains(&number))
 }
 
-/// The first place and number told, looking at numbers up to `last`.
-pub fn told(tables: &Tables, last: u32) -> Option<(usize, u32)> {
-    STAGES
-        .iter()
-        .filter(|(numbers, _)| *numbers.end() <= last)
-        .find_map(|(numbers, places)| {
-            places_of(tables, *places).find_map(|place| {
-                let number = numbers.clone().find(|&n| breaks(tables, n, place))?;
-                Some((place, number))
-            })
+/// The first refusal told, looking at the stages up to that of number `last`.
+pub fn told(tables: &Tables, last: u32) -> Option<Answer> {
+    let last = stage_of(last).expect("a number that is told");
+    STAGES[..=last].iter().find_map(|(numbers, places)| {
+        places_of(tables, *places).find_map(|place| {
+            let number = numbers.clone().find(|&n| breaks(tables, n, place))?;
+            Some(refusal(tables, number, place))
         })
+    })
 }
 
 /// The places of a stage, rising.
@@ -74,7 +77,7 @@ pub fn breaks(t: &Tables, number: u32, place: usize) -> bool {
         6 => parent_out_of_order(t, place),
         7 => bad_property(t, place),
         8 => !bad_property(t, place) && repeats_earlier(t, place),
-        9 => bad_cpus_node(t),
+        9 => t.name(0) != Some(b"cpus"),
         10 => !(1..=256).contains(&t.cpus().len()),
         11 => t.value(place, b"device_type") != Some(b"cpu\0"),
         12 => bad_reg(t, place),
@@ -92,6 +95,8 @@ pub fn breaks(t: &Tables, number: u32, place: usize) -> bool {
         25 => t.is_leaf(place) && names_cpu_again(t, place),
         26 => !(1..t.node_count()).any(|r| t.is_leaf(r) && t.cpu_of(r) == Some(place)),
         27 => t.room < 12 * t.cpus().len(),
+        36 => !address_cells(t).is_some_and(|cells| cells == 1 || t.width == 64),
+        37 => t.value(0, b"#size-cells") != Some(&[0, 0, 0, 0]),
         _ => false,
     }
 }
@@ -125,13 +130,6 @@ fn address_cells(t: &Tables) -> Option<usize> {
         Some([0, 0, 0, 2]) => Some(2),
         _ => None,
     }
-}
-
-fn bad_cpus_node(t: &Tables) -> bool {
-    t.name(0) != Some(b"cpus")
-        || address_cells(t).is_none()
-        || (t.width == 32 && address_cells(t) != Some(1))
-        || t.value(0, b"#size-cells") != Some(&[0, 0, 0, 0])
 }
 
 /// Upper and lower cell of a cpu record's `reg`, if it has the right length.

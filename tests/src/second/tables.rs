@@ -140,8 +140,8 @@ impl<'a> Tables<'a> {
         })[record]
     }
 
-    /// The value of a property; rule 8 sees to it that there is one at most.
-    pub fn value(&self, record: usize, name: &[u8]) -> Option<&'a [u8]> {
+    /// The property record of a name; rule 8 sees to it that there is one at most.
+    pub fn property(&self, record: usize, name: &[u8]) -> Option<usize> {
         let lists = self.props_of.get_or_init(|| {
             let mut lists = vec![Vec::new(); self.node_count()];
             for prop in 0..self.prop_count() {
@@ -149,10 +149,12 @@ impl<'a> Tables<'a> {
             }
             lists
         });
-        let prop = lists[record]
-            .iter()
-            .find(|&&p| self.prop_name(p) == Some(name))?;
-        self.prop_value(*prop)
+        let named = |&&p: &&usize| self.prop_name(p) == Some(name);
+        lists[record].iter().find(named).copied()
+    }
+
+    pub fn value(&self, record: usize, name: &[u8]) -> Option<&'a [u8]> {
+        self.prop_value(self.property(record, name)?)
     }
 
     /// Children of record 0 named `cpu` or beginning `cpu@`.

@@ -1,0 +1,53 @@
+//! How often each number was told of boards, with a property record and without.
+
+use crate::answer::{Answer, NO_PROPERTY};
+use crate::build::property_faults::NEEDED;
+use std::collections::BTreeMap;
+
+/// The numbers that read_tables tells.
+pub fn numbers() -> impl Iterator<Item = u32> {
+    (1..=27).filter(|&number| number != 14).chain([36, 37])
+}
+
+/// Answers by number, and by whether they have a property record.
+#[derive(Default)]
+pub struct Counts(BTreeMap<(u32, bool), usize>);
+
+impl Counts {
+    pub fn add(&mut self, answer: &Answer) {
+        let key = (answer.number, answer.second != NO_PROPERTY);
+        *self.0.entry(key).or_default() += 1;
+    }
+
+    fn of_sort(&self, number: u32, with_property: bool) -> usize {
+        self.0.get(&(number, with_property)).copied().unwrap_or(0)
+    }
+
+    pub fn of(&self, number: u32) -> usize {
+        self.of_sort(number, false) + self.of_sort(number, true)
+    }
+
+    /// Whether every number was told, those with a second place both where the
+    /// property is there and where it is missing.
+    pub fn complete(&self) -> bool {
+        let both = |number| self.of_sort(number, false) > 0 && self.of_sort(number, true) > 0;
+        numbers().all(|number| self.of(number) > 0)
+            && NEEDED.iter().all(|needed| both(needed.number))
+    }
+
+    /// A line for each number told, with 0 for acceptance, and then the numbers
+    /// that were not told.
+    pub fn lines(&self) -> String {
+        let line = |number: u32| {
+            let with = match self.of_sort(number, true) {
+                0 => String::new(),
+                with => format!(", {with} with a property record"),
+            };
+            format!("number {number:>2}: {}{with}\n", self.of(number))
+        };
+        let all = std::iter::once(0).chain(numbers());
+        let (told, other): (Vec<u32>, Vec<u32>) = all.partition(|&number| self.of(number) > 0);
+        let told: String = told.into_iter().map(line).collect();
+        format!("{told}not told: {other:?}")
+    }
+}
