@@ -2,6 +2,9 @@
 //!
 //!     rustc -O -L target/staticlib -l static=exports examples/list_slots.rs -o list_slots && ./list_slots
 
+/// `SUNDERWATH_ANSWER_WORDS` of include/sunderwath.h.
+const ANSWER_WORDS: usize = 11;
+
 extern "C" {
     fn sunderwath_list_slot(
         mpidr: u64,
@@ -14,7 +17,7 @@ extern "C" {
 
 /// The slot of one MPIDR in a list, or the number told.
 fn slot(mpidr: u64, list: &[u64]) -> Result<u32, u32> {
-    let mut answer = [0u32; 10];
+    let mut answer = [0u32; ANSWER_WORDS];
     // The slices are valid for their lengths, and the answer overlaps nothing.
     let number = unsafe {
         sunderwath_list_slot(

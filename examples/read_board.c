@@ -1,5 +1,6 @@
 /*
- * Reads a board of two processors from tables and prints their rows.
+ * Reads a board of two processors from tables and prints their rows; then the same board with a fault, which is refused with the
+ * number of the rule, the node record and the property record.
  *
  *   gcc -Iinclude examples/read_board.c target/staticlib/libexports.a -o read_board && ./read_board
  */
@@ -26,14 +27,27 @@ static const uint32_t nodes[] = {
 };
 
 /* Property records: node, name offset, name length, value offset, value length. */
-static const uint32_t props[] = {
+static uint32_t props[] = {
     0, ADDRESS, 14, ONE, 4, 0, SIZE, 11, ZERO, 4,
     3, CPU, 3, TWO, 4, 4, CPU, 3, ONE, 4,
     5, TYPE, 11, CPU, 4, 5, REG, 3, ZERO, 4, 5, PHANDLE, 7, ONE, 4,
     6, TYPE, 11, CPU, 4, 6, REG, 3, HUNDRED, 4, 6, PHANDLE, 7, TWO, 4
 };
 
-int main(void)
+/* Prints number, place and second place, which is a property record or none. */
+static void refused(const uint32_t *answer)
+{
+    uint32_t property = answer[SUNDERWATH_ANSWER_SECOND];
+
+    printf("refused: rule %u at record %u", (unsigned)answer[SUNDERWATH_ANSWER_NUMBER], (unsigned)answer[SUNDERWATH_ANSWER_PLACE]);
+    if (property != SUNDERWATH_NO_PROPERTY) {
+        const uint32_t *record = props + SUNDERWATH_PROPERTY_WORDS * property;
+        printf(", property %u (%.*s)", (unsigned)property, (int)record[2], pool + record[1]);
+    }
+    printf("\n");
+}
+
+static void show(void)
 {
     uint32_t rows[2 * SUNDERWATH_ROW_WORDS], answer[SUNDERWATH_ANSWER_WORDS];
     uint32_t number = sunderwath_read_tables(64, nodes, sizeof nodes / 4, props, sizeof props / 4,
@@ -41,12 +55,20 @@ int main(void)
     uint32_t k;
 
     if (number != 0) {
-        printf("refused: rule %u at record %u\n", (unsigned)number, (unsigned)answer[SUNDERWATH_ANSWER_PLACE]);
-        return 1;
+        refused(answer);
+        return;
     }
     for (k = 0; k < answer[SUNDERWATH_ANSWER_COUNT]; k++) {
         const uint32_t *row = rows + SUNDERWATH_ROW_WORDS * k;
         printf("leaf %u, cpu %u, mpidr 0x%x, slot %u\n", (unsigned)row[0], (unsigned)row[1], (unsigned)row[3], (unsigned)row[11]);
     }
+}
+
+int main(void)
+{
+    show();
+    /* The value of the last property, the phandle of cpu@100, becomes that of cpu@0. */
+    props[sizeof props / 4 - 2] = ONE;
+    show();
     return 0;
 }

@@ -8,16 +8,28 @@
 
 #include "sunderwath.h"
 
-/* One byte more than is read, so that a longer file is told as 31. */
+/* One byte more than a blob may have, so that a longer file is told as 31. */
 static uint8_t blob[SUNDERWATH_MAX_BLOB + 1];
 static uint32_t nodes[SUNDERWATH_NODE_WORDS * SUNDERWATH_MAX_NODES];
 static uint32_t props[SUNDERWATH_PROPERTY_WORDS * SUNDERWATH_MAX_PROPERTIES];
 static uint32_t rows[SUNDERWATH_ROW_WORDS * SUNDERWATH_MAX_CPUS];
 
-static int refused(uint32_t number, uint32_t place)
+/* The second place is a property record or none; a refusal of the blob has none. */
+static int refused(const uint32_t *answer, uint32_t second)
 {
-    printf("refused: rule %u at %u\n", (unsigned)number, (unsigned)place);
+    printf("refused: rule %u at %u", (unsigned)answer[SUNDERWATH_ANSWER_NUMBER], (unsigned)answer[SUNDERWATH_ANSWER_PLACE]);
+    if (second != SUNDERWATH_NO_PROPERTY) {
+        const uint32_t *record = props + SUNDERWATH_PROPERTY_WORDS * second;
+        printf(", property %u (%.*s)", (unsigned)second, (int)record[2], (const char *)blob + record[1]);
+    }
+    printf("\n");
     return 1;
+}
+
+/* Both cells of reg; a board with one address cell has 0 in the upper one. */
+static unsigned long long mpidr(const uint32_t *row)
+{
+    return (unsigned long long)row[SUNDERWATH_ROW_MPIDR_UPPER] << 32 | row[SUNDERWATH_ROW_MPIDR_LOWER];
 }
 
 int main(int count, char **arguments)
@@ -35,17 +47,17 @@ int main(int count, char **arguments)
     fclose(file);
 
     if (sunderwath_read_flat(blob, bytes, nodes, sizeof nodes / 4, props, sizeof props / 4, flat, sizeof flat / 4) != 0)
-        return refused(flat[SUNDERWATH_ANSWER_NUMBER], flat[SUNDERWATH_ANSWER_PLACE]);
+        return refused(flat, SUNDERWATH_NO_PROPERTY);
     printf("%u nodes, %u properties\n", (unsigned)flat[SUNDERWATH_FLAT_NODES], (unsigned)flat[SUNDERWATH_FLAT_PROPERTIES]);
 
     if (sunderwath_read_tables(64, nodes, SUNDERWATH_NODE_WORDS * flat[SUNDERWATH_FLAT_NODES], props,
                                SUNDERWATH_PROPERTY_WORDS * flat[SUNDERWATH_FLAT_PROPERTIES], blob, bytes, rows, sizeof rows / 4, answer,
                                sizeof answer / 4) != 0)
-        return refused(answer[SUNDERWATH_ANSWER_NUMBER], answer[SUNDERWATH_ANSWER_PLACE]);
+        return refused(answer, answer[SUNDERWATH_ANSWER_SECOND]);
     for (k = 0; k < answer[SUNDERWATH_ANSWER_COUNT]; k++) {
         const uint32_t *row = rows + SUNDERWATH_ROW_WORDS * k;
-        printf("leaf %u, cpu %u, mpidr 0x%x, slot %u\n", (unsigned)row[SUNDERWATH_ROW_LEAF], (unsigned)row[SUNDERWATH_ROW_CPU],
-               (unsigned)row[SUNDERWATH_ROW_MPIDR_LOWER], (unsigned)row[SUNDERWATH_ROW_SLOT]);
+        printf("leaf %u, cpu %u, mpidr 0x%llx, slot %u\n", (unsigned)row[SUNDERWATH_ROW_LEAF], (unsigned)row[SUNDERWATH_ROW_CPU], mpidr(row),
+               (unsigned)row[SUNDERWATH_ROW_SLOT]);
     }
     return 0;
 }

@@ -42,11 +42,15 @@
 extern "C" {
 #endif
 
-/* Words of an answer. */
-#define SUNDERWATH_ANSWER_WORDS 10
+/*
+ * Words of an answer. Words 0 to 9 are what they were in answers of ten words,
+ * which had no second place; a caller that still lends ten gets
+ * SUNDERWATH_ANSWER_SPACE and nothing written.
+ */
+#define SUNDERWATH_ANSWER_WORDS 11
 
-/* Positions of the words of an answer. In a refusal all words but the first
- * two are 0. */
+/* Positions of the words of an answer. In a refusal all words but number,
+ * place and second place are 0. */
 #define SUNDERWATH_ANSWER_NUMBER 0    /* 0 or the number of the rule broken */
 #define SUNDERWATH_ANSWER_PLACE 1     /* where it is broken: see the numbers */
 #define SUNDERWATH_ANSWER_COUNT 2     /* processors; for list_slot the slot */
@@ -54,8 +58,20 @@ extern "C" {
 #define SUNDERWATH_ANSWER_MASK_HIGH 4 /* mask, bits 63..32 */
 #define SUNDERWATH_ANSWER_SHIFTS 5    /* four shifts, affinity level 0 first */
 #define SUNDERWATH_ANSWER_BITS 9      /* bits of a slot */
+#define SUNDERWATH_ANSWER_SECOND 10   /* property record or NO_PROPERTY */
 
-/* Words of the answer of sunderwath_read_flat. */
+/*
+ * The second place of an answer. Six numbers speak of one property of the
+ * record at the place: 11 of device_type, 12 of reg, 17 of phandle, 24 of cpu,
+ * 36 of #address-cells and 37 of #size-cells. Their second place is the number
+ * of that property's record, SUNDERWATH_NO_PROPERTY where the record has no
+ * such property. A phandle that two cpu nodes have is told of the later one.
+ * Every other answer has SUNDERWATH_NO_PROPERTY there: acceptance, 7 and 8,
+ * which have a property record as their place, and all the rest.
+ */
+#define SUNDERWATH_NO_PROPERTY 0xFFFFFFFFu
+
+/* Words of the answer of sunderwath_read_flat, which has no second place. */
 #define SUNDERWATH_FLAT_ANSWER_WORDS 4
 
 /* Positions of its words; number and place are those of every answer. In a
@@ -87,7 +103,8 @@ extern "C" {
  * value length. */
 #define SUNDERWATH_PROPERTY_WORDS 5
 
-/* Parent word of node record 0; also "no property" of find_property. */
+/* Parent word of node record 0; also what find_property returns if there is
+ * no such property. */
 #define SUNDERWATH_NONE 0xFFFFFFFFu
 
 /* Limits: bytes of a blob, records, bytes of a pool, cpu nodes. */
@@ -102,9 +119,9 @@ extern "C" {
  * x86-64, not proved: the proof is about a machine without a stack. The most is
  * needed by 1,024 records nested in the map or below a cpu, as the ancestor
  * test of rule 6 recurses on the parent; boards of 16 and of 256 cpus need
- * 16,656 bytes. tests/c/stack_test.c measures these boards.
+ * 16,720 bytes. tests/c/stack_test.c measures these boards.
  */
-#define SUNDERWATH_STACK_BYTES 49264
+#define SUNDERWATH_STACK_BYTES 49328
 
 /*
  * The bytes of stack that sunderwath_read_flat needs at most, whatever the
@@ -117,8 +134,9 @@ extern "C" {
 
 /*
  * The numbers, in the order of checking. Each comment says what is wrong and,
- * after the semicolon, what the place of the answer is. 14 is not used.
- * The place of a record is its number in its table.
+ * after the semicolon, what the place of the answer is and, for six of them,
+ * the property whose record the second place is. 14 is not used. The place of
+ * a record is its number in its table.
  */
 enum sunderwath_number {
     SUNDERWATH_ACCEPTED = 0,
@@ -161,13 +179,20 @@ enum sunderwath_number {
 
     /* ---- the cpus node and its cpu nodes ---- */
 
-    /* name or cell counts of record 0; 0 */
+    /* record 0 is not named cpus; 0 */
     SUNDERWATH_CPUS_NODE = 9,
+    /* #address-cells of record 0 missing, not four bytes, or not 1 or 2 (width
+     * 32: only 1); 0, second place #address-cells */
+    SUNDERWATH_CPUS_ADDRESS_CELLS = 36,
+    /* #size-cells of record 0 missing or not four zero bytes; 0, second place
+     * #size-cells */
+    SUNDERWATH_CPUS_SIZE_CELLS = 37,
     /* not 1 to 256 cpu nodes; 0 */
     SUNDERWATH_CPU_COUNT = 10,
-    /* device_type is not "cpu"; record */
+    /* device_type is not "cpu"; record, second place device_type */
     SUNDERWATH_CPU_DEVICE_TYPE = 11,
-    /* reg missing, wrong length or bits outside the affinity bits; record */
+    /* reg missing, wrong length or bits outside the affinity bits; record,
+     * second place reg */
     SUNDERWATH_CPU_REG = 12,
     /* reg of an earlier cpu node; record */
     SUNDERWATH_DUPLICATE_CPU_REG = 13,
@@ -178,7 +203,7 @@ enum sunderwath_number {
     SUNDERWATH_CPU_MAP_MISSING = 15,
     /* another node named cpu-map; record */
     SUNDERWATH_CPU_MAP_DUPLICATE = 16,
-    /* phandle missing, not usable or taken; record */
+    /* phandle missing, not usable or taken; record, second place phandle */
     SUNDERWATH_CPU_PHANDLE = 17,
     /* topology name outside the map; record */
     SUNDERWATH_TOPOLOGY_OUTSIDE_MAP = 18,
@@ -192,7 +217,7 @@ enum sunderwath_number {
     SUNDERWATH_CPU_MAP_DEPTH = 22,
     /* map, socket or cluster without children; record */
     SUNDERWATH_CPU_MAP_EMPTY = 23,
-    /* leaf does not name a cpu node; record */
+    /* leaf does not name a cpu node; record, second place cpu */
     SUNDERWATH_CPU_MAP_PHANDLE = 24,
     /* leaf names a cpu of an earlier leaf; record */
     SUNDERWATH_CPU_MAP_CPU_REPEATED = 25,
@@ -218,15 +243,17 @@ enum sunderwath_number {
 
 /*
  * The hash of a list of 1 to 256 MPIDRs, repeats allowed: mask, shifts and
- * bits. Tells 28 or 29. Word 2 of the answer is 0.
+ * bits. Tells 28 or 29. Word 2 of the answer is 0, its second place is
+ * SUNDERWATH_NO_PROPERTY.
  */
 uint32_t sunderwath_list_hash(const uint64_t *list, size_t n,
                               uint32_t *answer, size_t a);
 
 /*
  * The slot of one MPIDR in the hash of a list. Tells 28, 29 or 30. Word 2 of
- * the answer is the slot, and words 3 to 9 are 0. An MPIDR that is not in the
- * list has no slot, as its bits could fall on the slot of a listed one.
+ * the answer is the slot, words 3 to 9 are 0, and the second place is
+ * SUNDERWATH_NO_PROPERTY. An MPIDR that is not in the list has no slot, as its
+ * bits could fall on the slot of a listed one.
  */
 uint32_t sunderwath_list_slot(uint64_t mpidr, const uint64_t *list, size_t n,
                               uint32_t *answer, size_t a);
@@ -252,9 +279,10 @@ uint32_t sunderwath_read_flat(const uint8_t *blob, size_t blob_n,
 
 /*
  * Reads a board. `width` is 32 (ARM v7 or later) or 64 (ARM v8). Node record 0
- * is the cpus node; records stand depth first. Tells 1 to 27; on acceptance
- * the answer's count is the number of processors, and each has its row, in the
- * order of the map. Rows need 12 words for each cpu node.
+ * is the cpus node; records stand depth first. Tells 1 to 27 and, between 9 and
+ * 10, 36 and 37; six of these have a second place. On acceptance the answer's
+ * count is the number of processors, and each has its row, in the order of the
+ * map. Rows need 12 words for each cpu node.
  */
 uint32_t sunderwath_read_tables(uint32_t width,
                                 const uint32_t *nodes, size_t n,
@@ -268,7 +296,8 @@ uint32_t sunderwath_read_tables(uint32_t width,
  * of these; they may change or go.
  */
 
-/* Rules 1 to 8 alone. Words 2 to 9 of the answer are 0. */
+/* Rules 1 to 8 alone. Words 2 to 9 of the answer are 0, and the second place is
+ * SUNDERWATH_NO_PROPERTY. */
 uint32_t sunderwath_check_tables(uint32_t width,
                                  const uint32_t *nodes, size_t n,
                                  const uint32_t *props, size_t p,

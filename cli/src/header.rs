@@ -30,15 +30,17 @@ fn header_word(blob: &[u8], at: usize) -> u32 {
     word_at(blob, at).unwrap_or(0)
 }
 
-/// How many bytes of a file are the blob: its total size, if the file has them.
-pub fn blob_length(file: &[u8]) -> usize {
+/// The total size, where a file begins with a header that has one.
+pub fn total_size(file: &[u8]) -> Option<usize> {
     let total = header_word(file, TOTAL_SIZE) as usize;
     let sound = file.len() >= HEADER_BYTES && header_word(file, 0) == MAGIC;
-    if sound && (HEADER_BYTES..=file.len()).contains(&total) {
-        total
-    } else {
-        file.len()
-    }
+    (sound && total >= HEADER_BYTES).then_some(total)
+}
+
+/// How many bytes of a file are the blob: its total size, if the file has them.
+pub fn blob_length(file: &[u8]) -> usize {
+    let length = file.len();
+    total_size(file).map_or(length, |total| total.min(length))
 }
 
 /// Why the header breaks 31, its length limit left out.

@@ -3,6 +3,8 @@
 
 pub mod board;
 pub mod cut;
+pub mod details;
+pub mod escape;
 pub mod fault;
 pub mod flat;
 pub mod header;
@@ -10,5 +12,7 @@ pub mod input;
 pub mod messages;
 pub mod options;
 pub mod output;
+pub mod report;
 pub mod stream;
 pub mod tables;
+mod topology;

@@ -2,15 +2,18 @@
 
 use std::io::{self, Write};
 use std::process::ExitCode;
+use sunderwath::details::Told;
+use sunderwath::escape::for_terminal;
 use sunderwath::flat::{self, Reading};
-use sunderwath::options::{self, Options, Request, USAGE};
+use sunderwath::options::{self, Format, Options, Request, USAGE};
+use sunderwath::report::Report;
 use sunderwath::{board, input, output};
 
 const REFUSED: u8 = 1;
 const UNREADABLE: u8 = 2;
 
 fn main() -> ExitCode {
-    match options::parse(std::env::args().skip(1)) {
+    match options::parse(std::env::args_os().skip(1)) {
         Ok(Request::Help) => print(USAGE),
         Ok(Request::Version) => print(&format!(
             "Version: sunderwath {}\n",
@@ -18,27 +21,47 @@ fn main() -> ExitCode {
         )),
         Ok(Request::Run(options)) => run(&options),
         Err(error) => {
-            eprintln!("sunderwath: {error}\n\n{USAGE}");
+            complain(&format!("sunderwath: {}\n\n{USAGE}", for_terminal(&error)));
             ExitCode::from(UNREADABLE)
         }
     }
 }
 
-/// Writes to standard output. A reader that has gone away is no error.
-fn print(text: &str) -> ExitCode {
+/// A line on standard error. Where nobody reads it, the status has to do.
+fn complain(line: &str) {
+    let _ = io::stderr().write_all(format!("{line}\n").as_bytes());
+}
+
+/// Writes to standard output, and gives the status. A reader that has gone away is no error.
+fn print_and(text: &str, status: ExitCode) -> ExitCode {
     match io::stdout().lock().write_all(text.as_bytes()) {
         Err(error) if error.kind() != io::ErrorKind::BrokenPipe => {
-            eprintln!("sunderwath: cannot write: {error}");
+            complain(&format!("sunderwath: cannot write: {error}"));
             ExitCode::from(UNREADABLE)
         }
-        _ => ExitCode::SUCCESS,
+        _ => status,
     }
+}
+
+fn print(text: &str) -> ExitCode {
+    print_and(text, ExitCode::SUCCESS)
 }
 
 /// One line on standard error that begins with the file's name.
 fn tell(options: &Options, message: &str) {
     if !options.quiet {
-        eprintln!("{}: {message}", options.file);
+        let file = for_terminal(&input::name(&options.file));
+        complain(&format!("{file}: {message}"));
+    }
+}
+
+/// A line on standard error and, if JSON is asked for, an object on standard output.
+fn refuse(options: &Options, report: &Report) -> ExitCode {
+    tell(options, &report.to_string());
+    let refused = ExitCode::from(REFUSED);
+    match options.format {
+        Format::Json => print_and(&report.json(&input::name(&options.file)), refused),
+        _ => refused,
     }
 }
 
@@ -46,16 +69,13 @@ fn run(options: &Options) -> ExitCode {
     let file = match input::read(&options.file) {
         Ok(file) => file,
         Err(message) => {
-            eprintln!("{message}");
+            complain(&for_terminal(&message));
             return ExitCode::from(UNREADABLE);
         }
     };
     let Reading { tables, note } = match flat::read(file) {
         Ok(reading) => reading,
-        Err(fault) => {
-            tell(options, &fault.to_string());
-            return ExitCode::from(REFUSED);
-        }
+        Err(fault) => return refuse(options, &Report::of_blob(&fault)),
     };
     if let Some(note) = note {
         tell(options, &format!("note: {note}"));
@@ -63,8 +83,12 @@ fn run(options: &Options) -> ExitCode {
     match board::read(options.width, &tables) {
         Ok(board) => print(&output::print(options.format, &tables, &board)),
         Err(refusal) => {
-            tell(options, &board::describe(&tables, refusal));
-            ExitCode::from(REFUSED)
+            let told = Told {
+                tables: &tables,
+                width: options.width,
+                refusal,
+            };
+            refuse(options, &Report::of_board(&told))
         }
     }
 }

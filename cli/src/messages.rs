@@ -15,7 +15,7 @@ const fn message(number: u32, check: &'static str, sentence: &'static str) -> Me
     }
 }
 
-pub const MESSAGES: [Message; 36] = [
+pub const MESSAGES: [Message; 38] = [
     message(0, "accepted", "the board is accepted"),
     message(1, "board_width", "the width is neither 32 nor 64"),
     message(
@@ -56,18 +56,22 @@ pub const MESSAGES: [Message; 36] = [
     message(
         9,
         "cpus_node",
-        "#address-cells must be 1 or 2 (1 for width 32) and #size-cells 0",
+        "the node must be named cpus",
     ),
-    message(10, "cpu_count", "there are not 1 to 256 cpu nodes"),
+    message(
+        10,
+        "cpu_count",
+        "there must be 1 to 256 cpu nodes, named cpu or cpu@...",
+    ),
     message(
         11,
         "cpu_device_type",
-        "device_type is missing or is not \"cpu\"",
+        "device_type must be \"cpu\"",
     ),
     message(
         12,
         "cpu_reg",
-        "reg is missing, does not fit #address-cells, or has bits outside the affinity bits",
+        "reg must have as many cells as #address-cells says, and affinity bits only",
     ),
     message(
         13,
@@ -78,12 +82,12 @@ pub const MESSAGES: [Message; 36] = [
     message(
         16,
         "cpu_map_duplicate",
-        "a second node is named cpu-map",
+        "another node is named cpu-map",
     ),
     message(
         17,
         "cpu_phandle",
-        "phandle is missing, is not one cell, is 0 or 0xffffffff, or is that of an earlier cpu node",
+        "a cpu node must have a phandle of its own, one cell, not 0 or 0xffffffff",
     ),
     message(
         18,
@@ -118,7 +122,7 @@ pub const MESSAGES: [Message; 36] = [
     message(
         24,
         "cpu_map_phandle",
-        "cpu is missing, is not one cell, or is the phandle of no cpu node",
+        "cpu must be the phandle of a cpu node",
     ),
     message(
         25,
@@ -172,6 +176,16 @@ pub const MESSAGES: [Message; 36] = [
         "a lent table is too short for the records of /cpus",
     ),
     message(
+        36,
+        "cpus_address_cells",
+        "#address-cells must be one cell, with a value that the width allows",
+    ),
+    message(
+        37,
+        "cpus_size_cells",
+        "#size-cells must be one cell, with the value 0",
+    ),
+    message(
         49,
         "answer_space",
         "the answer has fewer words than stated",
@@ -198,7 +212,7 @@ mod tests {
     #[test]
     fn every_number_has_one_message() {
         let numbers: Vec<u32> = MESSAGES.iter().map(|m| m.number).collect();
-        let wanted: Vec<u32> = (0..=35).filter(|&n| n != 14).chain([49]).collect();
+        let wanted: Vec<u32> = (0..=37).filter(|&n| n != 14).chain([49]).collect();
         assert_eq!(numbers, wanted);
     }
 

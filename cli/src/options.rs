@@ -1,5 +1,7 @@
 //! The command line.
 
+use std::ffi::OsString;
+
 pub const USAGE: &str = "\
 Usage: sunderwath [OPTION]... FILE|-
 
@@ -9,7 +11,7 @@ standard input.
 
   -w, --width 32|64  width of the board: 32 for ARM v7, 64 for ARM v8 (default)
   -p, --parse        print comma-separated values, with comments after #
-  -j, --json         print JSON
+  -j, --json         print JSON, and why a board is refused as an object
   -t, --tree         print the cpu-map as an indented tree
   -q, --quiet        print no note, and no message when the board is refused
   -h, --help         print this help
@@ -31,7 +33,7 @@ pub struct Options {
     pub width: u32,
     pub format: Format,
     pub quiet: bool,
-    pub file: String,
+    pub file: OsString,
 }
 
 #[derive(Debug, PartialEq, Eq)]
@@ -65,27 +67,26 @@ fn flag(options: &mut Options, argument: &str) -> Result<(), String> {
 }
 
 /// Reads the arguments that follow the program's name.
-pub fn parse(arguments: impl IntoIterator<Item = String>) -> Result<Request, String> {
+pub fn parse(arguments: impl IntoIterator<Item = OsString>) -> Result<Request, String> {
     let mut arguments = arguments.into_iter();
     let mut options = Options {
         width: 64,
         format: Format::Table,
         quiet: false,
-        file: String::new(),
+        file: OsString::new(),
     };
     let mut files = Vec::new();
     while let Some(argument) = arguments.next() {
-        match argument.as_str() {
+        match &*argument.to_string_lossy() {
             "--" => files.extend(arguments.by_ref()),
             "-h" | "--help" => return Ok(Request::Help),
             "-V" | "--version" => return Ok(Request::Version),
-            "-w" | "--width" => {
+            option @ ("-w" | "--width") => {
                 let value = arguments.next();
-                let value = value.ok_or(format!("option '{argument}' needs a value"))?;
-                options.width = width(&value)?;
+                let value = value.ok_or(format!("option '{option}' needs a value"))?;
+                options.width = width(&value.to_string_lossy())?;
             }
-            "-" => files.push(argument),
-            text if text.starts_with('-') => flag(&mut options, text)?,
+            option if option.len() > 1 && option.starts_with('-') => flag(&mut options, option)?,
             _ => files.push(argument),
         }
     }
@@ -101,7 +102,7 @@ mod tests {
     use super::*;
 
     fn parsed(line: &str) -> Result<Request, String> {
-        parse(line.split_whitespace().map(String::from))
+        parse(line.split_whitespace().map(OsString::from))
     }
 
     #[test]
@@ -110,7 +111,7 @@ mod tests {
             width: 32,
             format: Format::Json,
             quiet: true,
-            file: "a.dtb".to_string(),
+            file: "a.dtb".into(),
         };
         for line in [
             "--width 32 --json -q a.dtb",

@@ -1,6 +1,7 @@
 //! Prints an accepted board: as a table, parsable, as JSON or as a tree.
 
 use crate::board::{Board, Row};
+use crate::escape::{for_commas, for_json, for_terminal};
 use crate::options::Format;
 use crate::tables::Tables;
 use std::fmt::Write;
@@ -71,8 +72,9 @@ fn hash_line(board: &Board) -> String {
 
 fn table(tables: &Tables, board: &Board) -> String {
     let mut lines = vec![HEADER.map(String::from)];
-    lines.extend(board.rows.iter().map(|row| columns(tables, row, "-")));
-    let width = |column: usize| lines.iter().map(|line| line[column].len()).max();
+    let shown = |row| columns(tables, row, "-").map(|value| for_terminal(&value));
+    lines.extend(board.rows.iter().map(shown));
+    let width = |column: usize| lines.iter().map(|line| line[column].chars().count()).max();
     let widths: Vec<usize> = (0..HEADER.len())
         .map(|column| width(column).unwrap_or(0))
         .collect();
@@ -98,33 +100,14 @@ fn parsable(tables: &Tables, board: &Board) -> String {
         HEADER.join(",").to_lowercase()
     );
     for row in &board.rows {
-        text.push_str(&columns(tables, row, "").map(comma_safe).join(","));
+        text.push_str(
+            &columns(tables, row, "")
+                .map(|value| for_commas(&value))
+                .join(","),
+        );
         text.push('\n');
     }
     text
-}
-
-/// A unit address may hold a comma; such a value stands in quotes.
-fn comma_safe(value: String) -> String {
-    if value.contains(',') {
-        format!("\"{value}\"")
-    } else {
-        value
-    }
-}
-
-fn json_string(text: &str) -> String {
-    let mut quoted = String::from("\"");
-    for character in text.chars() {
-        match character {
-            '"' | '\\' => quoted.extend(['\\', character]),
-            c if (c as u32) < 0x20 => {
-                write!(quoted, "\\u{:04x}", c as u32).expect("strings can be written to");
-            }
-            c => quoted.push(c),
-        }
-    }
-    quoted + "\""
 }
 
 fn json_row(tables: &Tables, row: &Row) -> String {
@@ -133,8 +116,8 @@ fn json_row(tables: &Tables, row: &Row) -> String {
     format!(
         "    {{\"leaf\": {}, \"cpu\": {}, \"mpidr\": \"{:#x}\", \"socket\": {}, \
          \"clusters\": [{}], \"core\": {}, \"thread\": {}, \"slot\": {}}}",
-        json_string(&tables.path(row.leaf)),
-        json_string(&tables.path(row.cpu)),
+        for_json(&tables.path(row.leaf)),
+        for_json(&tables.path(row.cpu)),
         row.mpidr,
         or_null(row.socket),
         clusters.join(", "),
@@ -168,10 +151,10 @@ fn tree(tables: &Tables, board: &Board) -> String {
         let known = same.count();
         for (depth, &record) in records.iter().enumerate().skip(known) {
             let indent = 2 * (depth + 1);
-            write!(text, "{:indent$}{}", "", tables.name(record))
-                .expect("strings can be written to");
+            let name = for_terminal(&tables.name(record));
+            write!(text, "{:indent$}{name}", "").expect("strings can be written to");
             if record == row.leaf {
-                let cpu = tables.name(row.cpu);
+                let cpu = for_terminal(&tables.name(row.cpu));
                 write!(text, ": {cpu}, mpidr {:#x}, slot {}", row.mpidr, row.slot)
                     .expect("strings can be written to");
             }
@@ -180,21 +163,4 @@ fn tree(tables: &Tables, board: &Board) -> String {
         open = records;
     }
     text + &hash_line(board)
-}
-
-#[cfg(test)]
-mod tests {
-    use super::{comma_safe, json_string};
-
-    #[test]
-    fn values_with_commas_are_quoted() {
-        assert_eq!(comma_safe("cpu@0,1".to_string()), "\"cpu@0,1\"");
-        assert_eq!(comma_safe("cpu@0".to_string()), "cpu@0");
-    }
-
-    #[test]
-    fn json_strings_are_quoted() {
-        assert_eq!(json_string("cpu@0"), "\"cpu@0\"");
-        assert_eq!(json_string("a\"\\\n"), "\"a\\\"\\\\\\u000a\"");
-    }
 }

@@ -1,4 +1,6 @@
-//! The records of the /cpus subtree, and the names and paths that messages and output need.
+//! The records of the /cpus subtree, and the names, paths and values that messages and output need.
+
+use crate::escape;
 
 const NO_PARENT: u32 = u32::MAX;
 
@@ -11,11 +13,8 @@ pub struct Tables {
 }
 
 impl Tables {
-    fn text(&self, offset: u32, length: u32) -> String {
-        let range = offset as usize..offset as usize + length as usize;
-        String::from_utf8_lossy(&self.pool[range])
-            .escape_debug()
-            .to_string()
+    fn bytes(&self, offset: u32, length: u32) -> &[u8] {
+        &self.pool[offset as usize..offset as usize + length as usize]
     }
 
     pub fn node_count(&self) -> usize {
@@ -38,18 +37,45 @@ impl Tables {
         all.filter(|&other| self.parent(other) == parent).collect()
     }
 
-    pub fn name(&self, record: u32) -> String {
+    pub fn name_bytes(&self, record: u32) -> &[u8] {
         let words = &self.nodes[3 * record as usize..];
-        self.text(words[1], words[2])
+        self.bytes(words[1], words[2])
+    }
+
+    pub fn name(&self, record: u32) -> String {
+        escape::characters(self.name_bytes(record))
     }
 
     pub fn property_node(&self, property: u32) -> u32 {
         self.props[5 * property as usize]
     }
 
-    pub fn property_name(&self, property: u32) -> String {
+    pub fn property_name_bytes(&self, property: u32) -> &[u8] {
         let words = &self.props[5 * property as usize..];
-        self.text(words[1], words[2])
+        self.bytes(words[1], words[2])
+    }
+
+    pub fn property_name(&self, property: u32) -> String {
+        escape::characters(self.property_name_bytes(property))
+    }
+
+    pub fn value(&self, property: u32) -> &[u8] {
+        let words = &self.props[5 * property as usize..];
+        self.bytes(words[3], words[4])
+    }
+
+    /// The properties of a node.
+    pub fn properties(&self, node: u32) -> impl Iterator<Item = u32> + '_ {
+        let all = 0..self.property_count() as u32;
+        all.filter(move |&property| self.property_node(property) == node)
+    }
+
+    /// The value of a property of a node, where the library's answer does not name its record.
+    pub fn find_value(&self, node: u32, name: &str) -> Option<&[u8]> {
+        let found = self
+            .properties(node)
+            .find(|&property| self.property_name_bytes(property) == name.as_bytes());
+        found.map(|property| self.value(property))
     }
 
     /// The full path of a node, as in /cpus/cpu@0.
@@ -69,11 +95,25 @@ impl Tables {
         let mut tables = Tables::default();
         for (record, (parent, name)) in nodes.iter().enumerate() {
             let parent = if record == 0 { NO_PARENT } else { *parent };
-            let offset = tables.pool.len() as u32;
-            tables.nodes.extend([parent, offset, name.len() as u32]);
-            tables.pool.extend_from_slice(name.as_bytes());
+            let [offset, length] = tables.put(name.as_bytes());
+            tables.nodes.extend([parent, offset, length]);
         }
         tables
+    }
+
+    /// With one property more.
+    pub fn with(mut self, node: u32, name: &str, value: &[u8]) -> Self {
+        let name = self.put(name.as_bytes());
+        let value = self.put(value);
+        self.props
+            .extend([node, name[0], name[1], value[0], value[1]]);
+        self
+    }
+
+    fn put(&mut self, bytes: &[u8]) -> [u32; 2] {
+        let offset = self.pool.len() as u32;
+        self.pool.extend_from_slice(bytes);
+        [offset, bytes.len() as u32]
     }
 }
 
@@ -93,12 +133,23 @@ mod tests {
 
     #[test]
     fn names_and_paths() {
-        let mut tables = Tables::of_nodes(&[(0, "cpus"), (0, "cpu@0"), (1, "a\nb")]);
-        tables.props = vec![1, 0, 3, 0, 0];
+        let tables = Tables::of_nodes(&[(0, "cpus"), (0, "cpu@0"), (1, "a\nb")]);
+        let tables = tables.with(1, "cpu", &[7]);
         assert_eq!(tables.path(0), "/cpus");
-        assert_eq!(tables.path(2), "/cpus/cpu@0/a\\nb");
+        assert_eq!(tables.path(2), "/cpus/cpu@0/a\nb");
         assert_eq!(tables.property_name(0), "cpu");
         assert_eq!(tables.property_node(0), 1);
         assert_eq!((tables.node_count(), tables.property_count()), (3, 1));
+    }
+
+    #[test]
+    fn values() {
+        let tables = Tables::of_nodes(&[(0, "cpus"), (0, "cpu@0")]);
+        let tables = tables.with(1, "reg", &[1]).with(0, "cpu", &[2]);
+        let tables = tables.with(1, "cpu", &[3, 4]);
+        assert_eq!(tables.properties(1).collect::<Vec<_>>(), [0, 2]);
+        assert_eq!(tables.value(2), [3, 4]);
+        assert_eq!(tables.find_value(1, "cpu"), Some(&[3, 4][..]));
+        assert_eq!(tables.find_value(0, "reg"), None);
     }
 }

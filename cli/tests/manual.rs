@@ -5,14 +5,15 @@ use sunderwath::options::USAGE;
 
 const MANUAL: &str = include_str!("../../docs/sunderwath.1");
 
-/// Those of a blob first, then those of a board.
+/// Those of a blob first, then those of a board: 36 and 37 are tested behind 9.
 #[test]
 fn manual_lists_the_checks() {
     let of = |numbers: std::ops::RangeInclusive<u32>| {
         let told = MESSAGES.iter().filter(move |m| numbers.contains(&m.number));
         told.map(|m| format!("{:2}  {}\n", m.number, m.check))
     };
-    let list: String = of(31..=35).chain(of(1..=27)).collect();
+    let board = of(1..=9).chain(of(36..=37)).chain(of(10..=27));
+    let list: String = of(31..=35).chain(board).collect();
     assert!(MANUAL.contains(&list), "{list}");
 }
 

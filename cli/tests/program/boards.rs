@@ -37,7 +37,7 @@ const ACCEPTED: [(&str, usize, &str); 9] = [
 ];
 
 /// Refused boards, with number, check name and path.
-const REFUSED: [(&str, u32, &str, &str); 21] = [
+const REFUSED: [(&str, u32, &str, &str); 25] = [
     (
         "example3",
         24,
@@ -51,7 +51,6 @@ const REFUSED: [(&str, u32, &str, &str); 21] = [
         "/cpus/cpu-map/socket0/cluster0/core2",
     ),
     ("example3-no-phandle", 17, "cpu_phandle", "/cpus/cpu@4"),
-    ("refused-09-size-cells", 9, "cpus_node", "/cpus"),
     ("refused-10-no-cpu", 10, "cpu_count", "/cpus"),
     (
         "refused-11-device-type",
@@ -59,6 +58,7 @@ const REFUSED: [(&str, u32, &str, &str); 21] = [
         "cpu_device_type",
         "/cpus/cpu@1",
     ),
+    ("refused-12-high-bits", 12, "cpu_reg", "/cpus/cpu@80000001"),
     ("refused-12-reg", 12, "cpu_reg", "/cpus/cpu@1000000"),
     (
         "refused-13-same-reg",
@@ -73,6 +73,7 @@ const REFUSED: [(&str, u32, &str, &str); 21] = [
         "cpu_map_duplicate",
         "/cpus/cpu@1/cpu-map",
     ),
+    ("refused-17-no-phandle", 17, "cpu_phandle", "/cpus/cpu@1"),
     (
         "refused-18-outside",
         18,
@@ -116,6 +117,12 @@ const REFUSED: [(&str, u32, &str, &str); 21] = [
         "/cpus/cpu-map/cluster1",
     ),
     (
+        "refused-24-cpu0",
+        24,
+        "cpu_map_phandle",
+        "/cpus/cpu-map/cluster0/core1",
+    ),
+    (
         "refused-24-no-cpu",
         24,
         "cpu_map_phandle",
@@ -129,6 +136,13 @@ const REFUSED: [(&str, u32, &str, &str); 21] = [
     ),
     ("refused-26-unmapped", 26, "cpu_unmapped", "/cpus/cpu@2"),
     ("refused-34-no-cpus", 34, "blob_cpus", "/"),
+    (
+        "refused-36-address-cells",
+        36,
+        "cpus_address_cells",
+        "/cpus",
+    ),
+    ("refused-37-size-cells", 37, "cpus_size_cells", "/cpus"),
 ];
 
 #[test]
@@ -182,4 +196,53 @@ fn refused_boards() {
         assert_eq!(quiet.status.code(), Some(1), "{name}");
         assert!(quiet.stdout.is_empty() && quiet.stderr.is_empty());
     }
+}
+
+/// What stands there, at the end of the message.
+const DETAILS: [(&str, &str); 18] = [
+    ("example3", "no property cpu (it has cpu0)"),
+    (
+        "example3-corrected",
+        "/cpus/cpu-map/socket0/cluster0/core1 names /cpus/cpu@2, phandle 0x2",
+    ),
+    ("example3-no-phandle", "no property phandle"),
+    ("refused-10-no-cpu", "0 cpu nodes"),
+    ("refused-11-device-type", "no property device_type"),
+    (
+        "refused-12-high-bits",
+        "reg 0x80000001 has bits outside 0xff00ffffff",
+    ),
+    ("refused-12-reg", "reg 0x1000000 has bits outside 0xffffff"),
+    ("refused-13-same-reg", "reg 0x0 is that of /cpus/cpu@0"),
+    ("refused-16-second-map", "the map is /cpus/cpu-map"),
+    ("refused-17-no-phandle", "no property phandle"),
+    ("refused-21-order", "core6, of 6 siblings"),
+    ("refused-24-cpu0", "no property cpu (it has cpu0)"),
+    (
+        "refused-24-no-cpu",
+        "no property cpu (it has no properties)",
+    ),
+    (
+        "refused-25-cpu-twice",
+        "/cpus/cpu-map/cluster0/core0 names /cpus/cpu@0, phandle 0x1",
+    ),
+    ("refused-26-unmapped", "its phandle is 0x40"),
+    ("refused-34-no-cpus", "it has 0"),
+    (
+        "refused-36-address-cells",
+        "#address-cells is 3; width 64 allows 1 or 2",
+    ),
+    ("refused-37-size-cells", "no property #size-cells"),
+];
+
+#[test]
+fn details_of_refused_boards() {
+    for (name, details) in DETAILS {
+        let output = run(&[&board(name)]);
+        let message = text(&output.stderr);
+        assert!(message.ends_with(&format!(" ({details})\n")), "{message}");
+    }
+    let file = board("refused-15-no-map");
+    let expected = format!("{file}: ERROR 15 (cpu_map_missing): /cpus: no cpu-map; 2 cpu nodes\n");
+    assert_eq!(text(&run(&[&file]).stderr), expected);
 }

@@ -41,7 +41,11 @@ impl Builder {
     }
 
     pub fn begin(self, name: &str) -> Self {
-        self.words(&[BEGIN]).bytes(format!("{name}\0").as_bytes())
+        self.begin_bytes(name.as_bytes())
+    }
+
+    pub fn begin_bytes(self, name: &[u8]) -> Self {
+        self.words(&[BEGIN]).bytes(&[name, &[0]].concat())
     }
 
     pub fn close(self) -> Self {
@@ -69,27 +73,46 @@ impl Builder {
         self.prop(name, &value.to_be_bytes())
     }
 
-    fn cpu(self, number: u32) -> Self {
-        self.begin(&format!("cpu@{number}"))
-            .prop("device_type", b"cpu\0")
+    pub fn cells(self, name: &str, values: &[u32]) -> Self {
+        let bytes: Vec<u8> = values
+            .iter()
+            .flat_map(|value| value.to_be_bytes())
+            .collect();
+        self.prop(name, &bytes)
+    }
+
+    /// A cpus node that is open, with its cell counts.
+    pub fn open_cpus(self, address_cells: u32) -> Self {
+        self.begin("cpus")
+            .cell("#address-cells", address_cells)
+            .cell("#size-cells", 0)
+    }
+
+    /// A cpu node that is open, with its type.
+    pub fn open_cpu(self, name: &str) -> Self {
+        self.begin(name).prop("device_type", b"cpu\0")
+    }
+
+    /// A cpu node that is sound if there is one address cell; its phandle is one more than its number.
+    pub fn cpu(self, number: u32) -> Self {
+        self.open_cpu(&format!("cpu@{number}"))
             .cell("reg", number)
             .cell("phandle", number + 1)
             .close()
     }
 
+    /// A leaf that names a cpu node.
+    pub fn leaf(self, name: &str, phandle: u32) -> Self {
+        self.begin(name).cell("cpu", phandle).close()
+    }
+
     /// A cpus node of two processors.
     pub fn cpus(self) -> Self {
-        self.begin("cpus")
-            .cell("#address-cells", 1)
-            .cell("#size-cells", 0)
+        self.open_cpus(1)
             .begin("cpu-map")
             .begin("cluster0")
-            .begin("core0")
-            .cell("cpu", 1)
-            .close()
-            .begin("core1")
-            .cell("cpu", 2)
-            .close()
+            .leaf("core0", 1)
+            .leaf("core1", 2)
             .close()
             .close()
             .cpu(0)

@@ -101,5 +101,7 @@ fn message_of_a_repeated_number() {
 fn width_decides_the_cells() {
     let output = run(&["--width", "32", &board("example1")]);
     assert_eq!(output.status.code(), Some(1));
-    assert!(text(&output.stderr).contains("ERROR 9 (cpus_node): /cpus: "));
+    let message = text(&output.stderr);
+    assert!(message.contains("ERROR 36 (cpus_address_cells): /cpus: "));
+    assert!(message.ends_with(" (#address-cells is 2; width 32 allows 1)\n"));
 }

@@ -75,7 +75,7 @@ fn note_and_refusal() {
     let board = Builder::rooted().padding(MUCH).begin("cpus").close();
     let blob = board.finish();
     let message = refusal(&blob);
-    let expected = note("-", blob.len()) + "-: ERROR 9 (cpus_node): /cpus: ";
+    let expected = note("-", blob.len()) + "-: ERROR 36 (cpus_address_cells): /cpus: ";
     assert!(message.starts_with(&expected), "{message}");
     assert_eq!(message.lines().count(), 2);
 }
