@@ -1,5 +1,6 @@
 -- The survey stops at the first fault: its stages, and what those of the code tell of a board. Assumes nothing.
 use mathlib.Core.Path.{_≡_, sym, ap, _∙_}
+use mathlib.Core.Logic.{inr}
 use mathlib.Core.List.{List, map}
 use Prim.Native.Nat.{ℕ, _*_, _≤_, min}
 use native.Mathlib.Omega.{arith}
@@ -19,7 +20,7 @@ use Rattle.wellformed.specs.answers.Check.{tableFault}
 use Rattle.wellformed.proofs.WellFormedLaws.{wf-nodes, wf-props, wf-prop-node}
 use Rattle.property_index.specs.declared.Key.{Key}
 use Rattle.property_index.specs.declared.Key.the-variants.{Cpu}
-use Rattle.property_index.specs.answers.Key.{keyName}
+use Rattle.property_index.specs.facts.Key.{keyName}
 use Rattle.property_index.specs.answers.Index.{indexed, indexedAt}
 use Rattle.property_index.proofs.IndexLaws.{index-finds}
 use Rattle.cpus.specs.declared.CpuReading.{CpuReading}
@@ -111,10 +112,10 @@ boardKeys b = indexed (replicate 4096 0) (b .props) (b .pool)
 -- a board with well-formed tables; what was read before a stage
 module _ (b : Board) (well : WellFormed b) {index records : List ℕ} (keys-are : index ≡ boardKeys b) (records-are : records ≡ cpuList b) where
   finds : (i : ℕ) (key : Key) → indexedAt (b .props) index i key ≡ lookup (b .props) (b .pool) i (keyName key)
-  finds =
+  finds i key =
       rw keys-are
-      (index-finds (b .props) (b .pool) (wf-props well .0)
-      (λ k lt. omega (arith, wf-prop-node well k lt, wf-nodes well .1)))
+      (index-finds (b .props) (b .pool) (wf-props well .0) i key
+      (λ k lt. inr (omega (arith, wf-prop-node well k lt, wf-nodes well .1))))
 
   -- rules 11 to 13, and rule 17: the readings by the index of properties and the records listed
   module _ {asked wanted : CpuNumbers} (asked-is : asked ≡ wanted) (rule : ℕ) where

@@ -16,7 +16,7 @@ use Rattle.laws.proofs.GatherLaws.{gathered-seen, first-same}
 use Rattle.laws.proofs.ListedLaws.{list-before, first-listed}
 use Rattle.tables.specs.answers.Lookup.{lookup}
 use Rattle.property_index.specs.declared.Key.{Key}
-use Rattle.property_index.specs.answers.Key.{keyName}
+use Rattle.property_index.specs.facts.Key.{keyName}
 use Rattle.property_index.specs.answers.Index.{indexedAt}
 use Rattle.cpus.specs.declared.CpuNumbers.{CpuNumbers}
 use Rattle.cpus.specs.declared.CpuReading.{CpuReading}

@@ -9,9 +9,9 @@ use lib.ListN.{length, length-take, length-drop}
 use Rattle.laws.proofs.SearchLaws.{true-false}
 use Rattle.laws.proofs.DecideLaws.{Decides, decides-as, eq-decides, le-decides, both-decides}
 use Rattle.tables.specs.facts.Board.{Board, WordSized, Inside, range, propValue, valueOffset, valueLength}
-use Rattle.tables.specs.facts.Property.{Property, HasValue, cellBytes}
+use Rattle.tables.specs.facts.Property.{Property, HasValue, foundAt, cellBytes}
 use Rattle.tables.specs.declared.Found.{Found}
-use Rattle.tables.specs.answers.Lookup.{foundAt, lookup}
+use Rattle.tables.specs.answers.Lookup.{lookup}
 use Rattle.wellformed.specs.facts.Rules.{WellFormed}
 use Rattle.tables.proofs.LookupLaws.{lookup-cases}
 use Rattle.wellformed.proofs.WellFormedLaws.{wf-unique, wf-value-unique}
@@ -66,7 +66,7 @@ module _ {b : Board} (sized : WordSized b) (well : WellFormed b) (i : ℕ) (key 
   pub value-says : (c : Cells) → ValueSays b c i key (valueIn (b .pool) c (lookup (b .props) (b .pool) i key))
   value-says c =
       ⊎-elim
-      (λ t. rw (t .1) (at (t .0) (t .2 .property) (valueSized (b .pool) (sizeOf c) (foundAt (b .props) (t .0))) refl))
+      (λ t. rw (t .1) (at (t .0) (t .2 .holds) (valueSized (b .pool) (sizeOf c) (foundAt (b .props) (t .0))) refl))
       (λ t. rw (t .0) (ValueSays.none (λ v h _. t .1 (h .record-number) (h .property))))
       (lookup-cases b i key)
     where

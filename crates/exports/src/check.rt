@@ -12,7 +12,7 @@ ghost use Rattle.tables.specs.facts.Board.{board};
 ghost use Rattle.tables.specs.answers.Lookup.{lookup};
 ghost use Rattle.wellformed.specs.answers.Check.{tableFault};
 ghost use Rattle.exports.specs.answers.Answer.{orShort, answerAfter};
-ghost use Rattle.exports.specs.answers.Tables.{checkWords, foundWord};
+ghost use Rattle.exports.specs.answers.Tables.{checkWords, foundWord, FindsWord};
 
 // The first of rules 1 to 8 that is broken.
 #[no_mangle]
@@ -51,8 +51,9 @@ pub extern "C" fn sunderwath_find_property(
     node: u32,
     name: &[u8],
 ) -> u32
-    ensures { λ r. ⌜ r ≡ foundWord (lookup (now (props .entry)) (now (pool .entry)) node (now (name .entry))) ⌝ }
+    ensures answer { λ r. ⌜ r ≡ foundWord (lookup (now (props .entry)) (now (pool .entry)) node (now (name .entry))) ⌝ }
+    ensures finds { λ r. ⌜ FindsWord (now (props .entry)) (now (pool .entry)) node (now (name .entry)) r ⌝ }
 {
-    let found = tables::find_property(props, pool, node as usize, name);
+    let found = lookup::find_property(props, pool, node as usize, name);
     at_most(record_of(found), NO_PROPERTY) as u32
 }

@@ -2,5 +2,6 @@
 pub mod Digit
 pub mod First
 pub mod Listing
+pub mod Lowest
 pub mod Sum
 pub mod Limits

@@ -7,9 +7,9 @@ use native.Mathlib.Omega.{arith}
 use lib.ListN.{length, getD, List·getD-eq-default}
 use Rattle.tables.specs.declared.Lookup.the-variants.{At, Missing}
 use Rattle.tables.specs.facts.Board.{propNode, keyOffset, keyLength}
-use Rattle.tables.specs.answers.Lookup.{foundAt}
+use Rattle.tables.specs.facts.Property.{foundAt}
 use Rattle.property_index.specs.declared.Key.{Key}
-use Rattle.property_index.specs.answers.Key.{keyNumber}
+use Rattle.property_index.specs.facts.Key.{keyNumber}
 use Rattle.property_index.specs.answers.Index.{notedKey, indexedBelow, lookupIn, indexedAt}
 
 -- the answer by a word of the table: none outside the table, none where it is 0, else the number below it

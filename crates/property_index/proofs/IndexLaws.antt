@@ -1,22 +1,27 @@
 -- The index of properties tells what a lookup finds. Assumes nothing.
-use mathlib.Core.Path.{_≡_, refl, _∙_}
+use mathlib.Core.Path.{_≡_, refl, ap, _∙_}
 use mathlib.Core.Bool.{Bool, true, false, cond}
-use mathlib.Core.Logic.{⊎-elim}
+use mathlib.Core.Logic.{_⊎_, inl, ⊎-elim}
 use mathlib.Core.List.{List}
 use Prim.Native.Nat.{ℕ, zero, suc, _+_, _*_, _≤_, _<_, min}
 use native.Mathlib.Omega.{arith}
 use lib.Dec.{ltb}
-use lib.ListN.{length, getD, replicate, length-replicate, getD-replicate, List·getD-eq-default}
+use lib.ListN.{getD, replicate, length-replicate, getD-replicate, List·getD-eq-default}
 use borrow.Author.Tests.{ne-eqb, lt-ltb, le-ltb, ltb-true}
 use Rattle.laws.specs.answers.Search.{lowest}
 use Rattle.laws.proofs.SearchLaws.{lt-or-le}
+use Rattle.tables.specs.declared.Lookup.{Lookup}
 use Rattle.tables.specs.declared.Lookup.the-variants.{At, Missing}
 use Rattle.laws.specs.facts.Limits.{maxNodes, maxProperties}
-use Rattle.tables.specs.facts.Board.{propCount, propNode, keyOffset, keyLength}
-use Rattle.tables.specs.answers.Lookup.{isProperty, foundAt, foundBelow, lookup}
+use Rattle.tables.specs.facts.Board.{Board, board, propCount, propNode, keyOffset, keyLength}
+use Rattle.tables.specs.facts.Property.{foundAt}
+use Rattle.tables.specs.answers.Lookup.{isProperty, foundBelow, lookup, recordOf}
+use Rattle.lookup.specs.facts.Finds.{LowestInside}
+use Rattle.lookup.proofs.FindsLaws.{inside-unique, inside-finds, lookup-inside}
 use Rattle.property_index.specs.declared.Key.{Key}
-use Rattle.property_index.specs.answers.Key.{keyName, keyNumber}
-use Rattle.property_index.specs.answers.Index.{indexedBelow, indexed, lookupIn, indexedAt}
+use Rattle.property_index.specs.facts.Key.{keyName, keyNumber}
+use Rattle.property_index.specs.facts.Index.{Noted, IndexOf, Indexes, FindsBy}
+use Rattle.property_index.specs.answers.Index.{indexedBelow, indexed, lookupIn, indexedAt, AsLookup}
 use Rattle.property_index.proofs.KeyLaws.{number-lt, key-is}
 use Rattle.property_index.proofs.NoteLaws.{firstWord, keys-length, noted-word}
 
@@ -44,14 +49,23 @@ word-found props p n = go (ltb (lowest p n) n)
     go true = refl
     go false = refl
 
--- a table that was blank, with the keys of properties of records below 1,024 noted
+-- the table that properties are noted in
+abbrev blank : List ℕ
+blank = replicate (4 * maxNodes) 0
+
+empty : (j : ℕ) → getD blank j 0 ≡ 0
+empty j =
+    ⊎-elim (λ lt. getD-replicate {A = ℕ} 4096 j 0 0 lt)
+    (λ le. List·getD-eq-default blank 0 {n = j} (omega (arith, length-replicate {A = ℕ} 4096 0)))
+    (lt-or-le j 4096)
+
+-- a table of zeros with all properties noted; record i is below 1,024, or all properties' records are
 module _
-    (props pool blank : List ℕ)
-    (low : (k : ℕ) → k < propCount props → propNode props k < maxNodes)
-    (size : length blank ≡ 4 * maxNodes)
-    (empty : (j : ℕ) → getD blank j 0 ≡ 0)
+    (props pool : List ℕ)
+    (few : propCount props ≤ maxProperties)
     (i : ℕ)
     (key : Key)
+    (low : (k : ℕ) → k < propCount props → (i < maxNodes) ⊎ (propNode props k < maxNodes))
   where
     abbrev index : ℕ → List ℕ
     index n = indexedBelow blank props pool n
@@ -65,26 +79,55 @@ module _
     word (suc n) le =
         let offset = keyOffset props n in
         let len = keyLength props n in
-        noted-word (index n) pool (propNode props n) offset len n i (keyNumber key) (keys-length blank props pool n ∙ size) (low n le) (number-lt key)
+        noted-word (index n) pool (propNode props n) offset len n i (keyNumber key)
+        (keys-length blank props pool n ∙ length-replicate {A = ℕ} 4096 0) (low n le) (number-lt key)
         ∙ rw (key-is pool offset len key, word n (omega arith)) (word-more test n)
 
-    finds : propCount props ≤ maxProperties → indexedAt props (indexed blank props pool) i key ≡ lookup props pool i (keyName key)
+    pub index-finds : indexedAt props (indexed blank props pool) i key ≡ lookup props pool i (keyName key)
     unfolding lookup indexedAt
-    finds few =
+    index-finds =
         let all : min (propCount props) maxProperties ≡ propCount props = omega arith in
         rw (all, word (propCount props) (omega arith)) (word-found props test (propCount props))
 
--- a table of zeros with the keys of all properties noted tells what a lookup finds
-pub index-finds :
-    (props pool : List ℕ) →
-    propCount props ≤ maxProperties →
-    ((k : ℕ) → k < propCount props → propNode props k < maxNodes) →
-    (i : ℕ) (key : Key) →
-    indexedAt props (indexed (replicate 4096 0) props pool) i key ≡ lookup props pool i (keyName key)
-index-finds props pool few low i key = finds props pool (replicate 4096 0) low (length-replicate {A = ℕ} 4096 0) empty i key few
-  where
-    empty : (j : ℕ) → _≡_ {A = ℕ} (getD (replicate 4096 0) j 0) 0
-    empty j =
-        ⊎-elim (λ lt. getD-replicate {A = ℕ} 4096 j 0 0 lt)
-        (λ le. List·getD-eq-default (replicate 4096 0) 0 {n = j} (omega (arith, length-replicate {A = ℕ} 4096 0)))
-        (lt-or-le j 4096)
+-- what a word tells, and the word that a lookup tells
+module _ (b : Board) (i : ℕ) (key : List ℕ) where
+  noted-inside : {w : ℕ} → Noted b i key w → LowestInside b i key (lookupIn (b .props) w)
+  noted-inside (Noted.property h) = LowestInside.found h
+  noted-inside (Noted.none h) = LowestInside.missing h
+
+  inside-noted : {answer : Lookup} (w : ℕ) → lookupIn (b .props) w ≡ answer → LowestInside b i key answer → Noted b i key w
+  inside-noted zero e (LowestInside.found h) = let z : _≡_ {A = ℕ} 0 1 = cc in absurd (omega arith)
+  inside-noted zero e (LowestInside.missing none) = Noted.none none
+  inside-noted (suc w) e (LowestInside.found {k} h) = let same : w ≡ k = ap recordOf e in rw same (Noted.property h)
+  inside-noted (suc w) e (LowestInside.missing none) = let z : _≡_ {A = ℕ} 0 1 = cc in absurd (omega arith)
+
+pub blank-indexes : (before props pool : List ℕ) → Indexes before props pool (indexed before props pool)
+unfolding indexedAt
+blank-indexes before props pool zeros few width nodes i lt key =
+    let b = board width nodes props pool in
+    rw zeros
+    (inside-noted b i (keyName key) _ (index-finds props pool few i key (λ _ _. inl lt)) (lookup-inside b i (keyName key)))
+
+module _ (props table : List ℕ) (i : ℕ) (key : Key) where
+  -- the answer of an index is the lowest match inside the pool
+  answer-inside :
+      (width : ℕ) (nodes pool : List ℕ) →
+      let b = board width nodes props pool in
+      IndexOf b table → i < maxNodes → LowestInside b i (keyName key) (indexedAt props table i key)
+  unfolding indexedAt
+  answer-inside width nodes pool made lt = noted-inside (board width nodes props pool) i (keyName key) (made i lt key)
+
+  -- what equals the definition meets the contract
+  pub index-meets :
+      {answer : Lookup} →
+      answer ≡ indexedAt props table i key →
+      (answer ≡ indexedAt props table i key) × (AsLookup props table i key answer × FindsBy props table i key answer)
+  index-meets e = (
+    e,
+    (
+      λ width nodes pool made lt.
+          let b = board width nodes props pool in
+          e ∙ inside-unique b i (keyName key) (answer-inside width nodes pool made lt) (lookup-inside b i (keyName key)),
+      λ width nodes pool made lt. rw e (inside-finds _ i (keyName key) (answer-inside width nodes pool made lt)),
+    ),
+  )

@@ -14,7 +14,7 @@ use Rattle.tables.proofs.LookupLaws.{range-is-true}
 use Rattle.property_index.specs.declared.Key.{Key}
 use Rattle.property_index.specs.declared.Key.the-variants.{Reg, Cpu, Phandle, DeviceType}
 use Rattle.tables.specs.facts.Binding.{regKey, cpuKey, phandleKey, deviceTypeKey}
-use Rattle.property_index.specs.answers.Key.{keyName, keyNumber}
+use Rattle.property_index.specs.facts.Key.{keyName, keyNumber}
 use Rattle.property_index.specs.answers.Index.{keyOf}
 
 pub number-lt : (key : Key) → keyNumber key < 4

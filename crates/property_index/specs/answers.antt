@@ -1,3 +1,2 @@
 -- What public contracts equate their results with.
 pub mod Index
-pub mod Key

@@ -12,7 +12,8 @@ use tables::found_at;
 use tables::wide;
 ghost use mathlib.Core.Path.{_≡_};
 ghost use Prim.Native.Nat.{_<_};
-ghost use Rattle.property_index.specs.answers.Index.{noted, notedKey, indexed, indexedAt};
+ghost use Rattle.property_index.specs.facts.Index.{Indexes, FindsBy};
+ghost use Rattle.property_index.specs.answers.Index.{noted, notedKey, indexed, indexedAt, AsLookup};
 
 // Notes property k at a place where none is noted.
 fn note(table: &mut [u16; INDEX_WORDS], at: usize, k: usize)
@@ -47,7 +48,8 @@ fn note_key(
 
 // Notes in a table, made of zeros, where the keys of each record stand.
 pub fn index_properties(props: &[u32], pool: &[u8], table: &mut [u16; INDEX_WORDS])
-    ensures { λ _. ⌜ now (table .exit) ≡ indexed (now (table .entry)) (now (props .entry)) (now (pool .entry)) ⌝ }
+    ensures table { λ _. ⌜ now (table .exit) ≡ indexed (now (table .entry)) (now (props .entry)) (now (pool .entry)) ⌝ }
+    ensures index { λ _. ⌜ Indexes (now (table .entry)) (now (props .entry)) (now (pool .entry)) (now (table .exit)) ⌝ }
 {
     let n = at_most(props.len() / 5, MAX_PROPERTIES);
     let mut k: usize = 0;
@@ -67,7 +69,9 @@ pub fn index_properties(props: &[u32], pool: &[u8], table: &mut [u16; INDEX_WORD
 
 // The property that is a key of record i.
 pub fn find_indexed(props: &[u32], table: &[u16; INDEX_WORDS], i: usize, key: Key) -> Lookup
-    ensures { λ r. ⌜ r ≡ indexedAt (now (props .entry)) (now (table .entry)) i key ⌝ }
+    ensures answer { λ r. ⌜ r ≡ indexedAt (now (props .entry)) (now (table .entry)) i key ⌝ }
+    ensures as_lookup { λ r. ⌜ AsLookup (now (props .entry)) (now (table .entry)) i key r ⌝ }
+    ensures finds { λ r. ⌜ FindsBy (now (props .entry)) (now (table .entry)) i key r ⌝ }
 {
     let words = &table[..];
     if MAX_NODES <= i {

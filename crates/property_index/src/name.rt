@@ -6,7 +6,7 @@ use tables::cell_at;
 ghost use mathlib.Core.Path.{_≡_};
 ghost use Prim.Native.Nat.{_+_, _*_};
 ghost use Rattle.tables.specs.answers.Range.{rangeIs};
-ghost use Rattle.property_index.specs.answers.Key.{keyNumber};
+ghost use Rattle.property_index.specs.facts.Key.{keyNumber};
 ghost use Rattle.tables.specs.facts.Binding.{phandleKey, deviceTypeKey};
 ghost use Rattle.property_index.specs.answers.Index.{keyOf};
 ghost use Rattle.property_index.specs.steps.ShortKey.{shortKey};

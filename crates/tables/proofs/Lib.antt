@@ -5,6 +5,5 @@ pub mod LookupLaws
 pub mod SecondLaws
 pub mod DecideLaws
 pub mod CellLaws
-pub mod CodeLookup
 pub mod CodePool
 pub mod CodeTree

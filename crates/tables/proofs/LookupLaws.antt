@@ -8,6 +8,7 @@ use native.Mathlib.Omega.{arith}
 use lib.Dec.{ltb, leb, eqb}
 use lib.ListN.{length}
 use borrow.Author.Tests.{le-leb, leb-true, eq-eqb, eqb-true, ltb-true, ltb-false}
+use Rattle.laws.specs.facts.Lowest.{Lowest}
 use Rattle.laws.specs.answers.Search.{lowest}
 use Rattle.laws.proofs.SearchLaws.{true-false, lowest-below, lowest-passes}
 use Rattle.laws.proofs.SameLaws.{same-refl, same-equal}
@@ -16,8 +17,8 @@ use Rattle.tables.specs.declared.Lookup.{Lookup}
 use Rattle.tables.specs.declared.Lookup.the-variants.{At, Missing}
 use Rattle.tables.specs.facts.Board.{Board, Inside, range, propCount, propNode, keyOffset, keyLength}
 use Rattle.tables.specs.answers.Range.{rangeIs}
-use Rattle.tables.specs.facts.Property.{Property}
-use Rattle.tables.specs.answers.Lookup.{isProperty, foundAt, lookup}
+use Rattle.tables.specs.facts.Property.{Property, foundAt}
+use Rattle.tables.specs.answers.Lookup.{isProperty, lookup}
 
 -- the test of a range of the pool
 module _ (pool : List ℕ) (offset len : ℕ) (bytes : List ℕ) where
@@ -30,11 +31,6 @@ module _ (pool : List ℕ) (offset len : ℕ) (bytes : List ℕ) where
   pub true-range-is : Inside pool offset len → range pool offset len ≡ bytes → rangeIs pool offset len bytes ≡ true
   unfolding rangeIs
   true-range-is h e = rw (le-leb (offset + len) (length pool) h, e) (same-refl bytes)
-
--- record k is the lowest property of record i with the name `key`
-pub record LowestProperty (b : Board) (i : ℕ) (key : List ℕ) (k : ℕ) : Type 0 where
-  pub property : Property b i key k
-  pub no-lower : (j : ℕ) → j < k → Property b i key j → ⊥
 
 module _ (b : Board) (i : ℕ) (key : List ℕ) where
   -- the test of a property record
@@ -63,17 +59,17 @@ module _ (b : Board) (i : ℕ) (key : List ℕ) where
   -- what the lookup answers, on any tables: the lowest record that matches, or that none does
   abbrev pub Answers : Lookup → Type 0
   Answers l =
-      ((k : ℕ) × (l ≡ At (foundAt (b .props) k)) × LowestProperty b i key k) ⊎ ((l ≡ Missing) × ((k : ℕ) → Property b i key k → ⊥))
+      ((k : ℕ) × (l ≡ At (foundAt (b .props) k)) × Lowest (Property b i key) k) ⊎ ((l ≡ Missing) × ((k : ℕ) → Property b i key k → ⊥))
 
   pub lookup-cases : Answers (lookup (b .props) (b .pool) i key)
   unfolding lookup
   lookup-cases = go (ltb found count) refl
     where
-      at-found : ltb found count ≡ true → LowestProperty b i key found
+      at-found : ltb found count ≡ true → Lowest (Property b i key) found
       at-found e =
           record {
-            property = is-property-true found (lowest-passes test count (ltb-true _ _ e)) (ltb-true _ _ e);
-            no-lower = λ j lt h. true-false (true-is-property j h) (lowest-below test count j lt);
+            holds = is-property-true found (lowest-passes test count (ltb-true _ _ e)) (ltb-true _ _ e);
+            none-lower = λ j lt h. true-false (true-is-property j h) (lowest-below test count j lt);
           }
 
       go : (t : Bool) → ltb found count ≡ t → Answers (cond t (At (foundAt (b .props) found)) Missing)

@@ -25,7 +25,7 @@ use Rattle.tables.proofs.LookupLaws.{lookup-cases}
 pub second-found : (b : Board) {n : ℕ} (p : ℕ) {key : List ℕ} → Concerns n key → Second b n p (recordOf (lookup (b .props) (b .pool) p key))
 second-found b p {key} c =
     ⊎-elim
-    (λ t. rw (t .1) (Second.found c (t .2 .property)))
+    (λ t. rw (t .1) (Second.found c (t .2 .holds)))
     (λ t. rw (t .0) (Second.missing c (t .1)))
     (lookup-cases b p key)
 

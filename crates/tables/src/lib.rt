@@ -8,7 +8,6 @@ mod words;
 pub use pool::cell_at;
 pub use pool::is_inside;
 pub use pool::range_is;
-pub use property::find_property;
 pub use property::found_at;
 pub use property::record_of;
 pub use tree::is_below;

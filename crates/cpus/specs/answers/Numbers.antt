@@ -14,7 +14,7 @@ use Rattle.tables.specs.answers.Lookup.{lookup, recordOf}
 use Rattle.property_index.specs.declared.Key.{Key}
 use Rattle.property_index.specs.declared.Key.the-variants.{Reg, Phandle, DeviceType}
 use Rattle.property_index.specs.answers.Index.{indexedAt}
-use Rattle.property_index.specs.answers.Key.{keyName}
+use Rattle.property_index.specs.facts.Key.{keyName}
 use Rattle.cpus.specs.declared.CpuReading.{CpuReading}
 use Rattle.cpus.specs.declared.Value.{Value}
 use Rattle.cpus.specs.declared.Value.the-variants.{Number, Invalid}

@@ -1,18 +1,21 @@
 -- The index of properties: at four times a record's number and a key's number, one more than the number of the property, or 0.
 use mathlib.Core.Bool.{cond}
 use mathlib.Core.List.{List}
-use Prim.Native.Nat.{ℕ, _+_, _*_, zero, suc, min}
+use mathlib.Core.Path.{_≡_}
+use Prim.Native.Nat.{ℕ, _+_, _*_, _<_, zero, suc, min}
 use lib.Dec.{eqb, ltb}
 use lib.ListN.{getD, set}
 use Rattle.laws.specs.facts.Limits.{maxNodes, maxProperties}
 use Rattle.tables.specs.declared.Lookup.{Lookup}
 use Rattle.tables.specs.declared.Lookup.the-variants.{At, Missing}
 use Rattle.tables.specs.facts.Binding.{regKey, cpuKey, phandleKey, deviceTypeKey}
-use Rattle.tables.specs.answers.Lookup.{foundAt}
+use Rattle.tables.specs.facts.Property.{foundAt}
+use Rattle.tables.specs.answers.Lookup.{lookup}
 use Rattle.tables.specs.answers.Range.{rangeIs}
-use Rattle.tables.specs.facts.Board.{propCount, propNode, keyOffset, keyLength}
+use Rattle.tables.specs.facts.Board.{board, propCount, propNode, keyOffset, keyLength}
 use Rattle.property_index.specs.declared.Key.{Key}
-use Rattle.property_index.specs.answers.Key.{keyNumber}
+use Rattle.property_index.specs.facts.Key.{keyName, keyNumber}
+use Rattle.property_index.specs.facts.Index.{IndexOf}
 
 -- the number of the key that a name is, 4 where it is none
 unfoldable pub keyOf : List ℕ → ℕ → ℕ → ℕ
@@ -48,3 +51,8 @@ lookupIn props (suc k) = At (foundAt props k)
 -- the property that is a key of record i, by an index of properties
 unfoldable pub indexedAt : (props table : List ℕ) → ℕ → Key → Lookup
 indexedAt props table i key = lookupIn props (getD table (4 * i + keyNumber key) 0)
+
+-- an index of a property table answers as the lookup does, of every record that rule 2 allows
+abbrev pub AsLookup : (props table : List ℕ) → ℕ → Key → Lookup → Type 0
+AsLookup props table i key answer =
+    (width : ℕ) (nodes pool : List ℕ) → IndexOf (board width nodes props pool) table → i < maxNodes → answer ≡ lookup props pool i (keyName key)

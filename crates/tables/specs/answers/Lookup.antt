@@ -5,19 +5,15 @@ use Prim.Native.Nat.{ℕ}
 use lib.Dec.{eqb, ltb}
 use Rattle.laws.specs.facts.Limits.{noProperty}
 use Rattle.laws.specs.answers.Search.{lowest}
-use Rattle.tables.specs.declared.Found.{Found}
 use Rattle.tables.specs.declared.Lookup.{Lookup}
 use Rattle.tables.specs.declared.Lookup.the-variants.{At, Missing}
-use Rattle.tables.specs.facts.Board.{propCount, propNode, keyOffset, keyLength, valueOffset, valueLength}
+use Rattle.tables.specs.facts.Board.{propCount, propNode, keyOffset, keyLength}
+use Rattle.tables.specs.facts.Property.{foundAt}
 use Rattle.tables.specs.answers.Range.{rangeIs}
 
 -- whether property record k is record i's and has the name `key`
 unfoldable pub isProperty : List ℕ → List ℕ → ℕ → List ℕ → ℕ → Bool
 isProperty props pool i key k = cond (eqb (propNode props k) i) (rangeIs pool (keyOffset props k) (keyLength props k) key) false
-
--- property record k as it is found: its number, and where its value stands in the pool
-abbrev pub foundAt : List ℕ → ℕ → Found
-foundAt props k = record { number = k; offset = valueOffset props k; len = valueLength props k }
 
 -- what was found below n: record k, or nothing where k is n
 abbrev pub foundBelow : List ℕ → ℕ → ℕ → Lookup

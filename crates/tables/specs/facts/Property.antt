@@ -5,6 +5,7 @@ use mathlib.Core.List.{List, [], _∷_}
 use Prim.Native.Nat.{ℕ, _+_, _*_, _<_, _/_, _%_}
 use lib.Dec.{leb}
 use lib.ListN.{length, getD}
+use Rattle.tables.specs.declared.Found.{Found}
 use Rattle.tables.specs.facts.Board.{Board, Inside, propCount, propNode, keyOffset, keyLength, valueOffset, valueLength, propName, propValue}
 
 -- property record k is record i's and has the name `key`
@@ -13,6 +14,10 @@ pub record Property (b : Board) (i : ℕ) (key : List ℕ) (k : ℕ) : Type 0 wh
   pub node : propNode (b .props) k ≡ i
   pub range : Inside (b .pool) (keyOffset (b .props) k) (keyLength (b .props) k)
   pub name : propName b k ≡ key
+
+-- property record k as it is found: its number, and where its value stands in the pool
+abbrev pub foundAt : List ℕ → ℕ → Found
+foundAt props k = record { number = k; offset = valueOffset props k; len = valueLength props k }
 
 -- record i has a property `key` with that value
 pub record HasValue (b : Board) (i : ℕ) (key value : List ℕ) : Type 0 where

@@ -167,10 +167,12 @@ module _ (c : tie.After-read-numbers) where
   cpus-listed = all-listed wholes (length mpidrs) (omega (arith, c .before .read-numbers-arg .given .0 .1))
 
   mpidr-fault : c .read-numbers .result ≡ cpuFault (b5 c)
-  mpidr-fault = c .read-numbers .ensures .0 ∙ numbers-stage (b5 c) well-5 (indexed .index-properties .ensures) cpus-listed (cells-are kept-9) 13
+  mpidr-fault = c .read-numbers .ensures .0 ∙ numbers-stage (b5 c) well-5 (indexed .index-properties .ensures .0) cpus-listed (cells-are kept-9) 13
 
   mpidrs-laid : cpuFault (b5 c) .number ≡ 0 → c .read-numbers .last .1 .1 .1 .1 .1 .0 ≡ laidOver (mpidrList (b5 c)) mpidrs
-  mpidrs-laid z = c .read-numbers .ensures .1 ∙ numbers-found (b5 c) well-5 (indexed .index-properties .ensures) cpus-listed (cells-are kept-9) 13 _ z
+  mpidrs-laid z =
+      c .read-numbers .ensures .1
+      ∙ numbers-found (b5 c) well-5 (indexed .index-properties .ensures .0) cpus-listed (cells-are kept-9) 13 _ z
 
 clear-mpidrs : (c : tie.Else4) → cpuFault (b5 (c .before .before)) .number ≡ 0
 clear-mpidrs c = ap (λ (f : Fault). f .number) (sym (mpidr-fault (c .before .before))) ∙ c .if4 .left
@@ -199,12 +201,13 @@ module _ (c : tie.After-read-numbers2) where
 
   phandle-fault : c .read-numbers2 .result ≡ phandlesFault (b7 c)
   phandle-fault =
-      c .read-numbers2 .ensures .0 ∙ numbers-stage (b7 c) (well-5 read) (indexed read .index-properties .ensures) all-cpus {wanted = Phandles} refl 17
+      c .read-numbers2 .ensures .0
+      ∙ numbers-stage (b7 c) (well-5 read) (indexed read .index-properties .ensures .0) all-cpus {wanted = Phandles} refl 17
 
   phandles-laid : phandlesFault (b7 c) .number ≡ 0 → c .read-numbers2 .last .1 .1 .1 .1 .1 .0 ≡ laidOver (phandleList (b7 c)) (replicate 256 0)
   phandles-laid z =
       c .read-numbers2 .ensures .1
-      ∙ numbers-found (b7 c) (well-5 read) (indexed read .index-properties .ensures) all-cpus {wanted = Phandles} refl 17 _ z
+      ∙ numbers-found (b7 c) (well-5 read) (indexed read .index-properties .ensures .0) all-cpus {wanted = Phandles} refl 17 _ z
 
 clear-phandles : (c : tie.Else6) → phandlesFault (b7 (c .before .before .before)) .number ≡ 0
 clear-phandles c = ap (λ (f : Fault). f .number) (sym (phandle-fault (c .before .before .before))) ∙ c .if6 .left
@@ -254,7 +257,7 @@ module _ (c : tie.After-read-tree) where
   theTree = lentTree (b8 c .nodes) (b8 c .props) (b8 c .pool) (indexed keyed .index-properties .last .1 .1 .0) (found .find-map .result .map) lent
 
   tree-here : theTree ≡ treeOf (b8 c)
-  tree-here = tree-is (b8 c) (well-5 keyed) (indexed keyed .index-properties .ensures) (listed-is (wholes keyed)) root-is lent-are few-lent
+  tree-here = tree-is (b8 c) (well-5 keyed) (indexed keyed .index-properties .ensures .0) (listed-is (wholes keyed)) root-is lent-are few-lent
 
   scanned : c .read-tree .result ≡ treeScan (treeOf (b8 c)) (cpuList (b8 c))
   scanned = c .read-tree .ensures .0 ∙ ap₂ treeScan tree-here (listed-is (wholes keyed))

@@ -33,7 +33,7 @@ returns c =
     let cell = phandle .before in
     rw (
       cell .before .before .enum-told .given .1,
-      ← cell .before .find-indexed .ensures,
+      ← cell .before .find-indexed .ensures .0,
       ← cell .cell-in .ensures,
       ← phandle .phandle-in .ensures,
       ← c .before .record-of .ensures,
@@ -68,10 +68,10 @@ returns-2 c =
     let kind = test .before .before in
     rw (
       kind .before .before .before .wanted .given .1,
-      ← kind .before .find-indexed2 .ensures,
+      ← kind .before .find-indexed2 .ensures .0,
       ← kind .cell-in2 .ensures,
       sym (test .before .is-number .ensures) ∙ test .if1 .taken,
-      ← value .before .find-indexed3 .ensures,
+      ← value .before .find-indexed3 .ensures .0,
       ← value .value-in .ensures,
       ← c .before .affine-only .ensures,
     ) (c .number-or2 .ensures)
@@ -86,7 +86,7 @@ returns-3 c =
     let kind = test .before .before in
     rw (
       kind .before .before .before .wanted .given .1,
-      ← kind .before .find-indexed2 .ensures,
+      ← kind .before .find-indexed2 .ensures .0,
       ← kind .cell-in2 .ensures,
       sym (test .before .is-number .ensures) ∙ test .if1 .left,
       c .record-of2 .ensures,

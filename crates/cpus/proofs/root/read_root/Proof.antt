@@ -21,7 +21,7 @@ allowed-read : (c : tie.After-cells-of) → c .before .cells-for .result ≡ add
 unfolding addressCells cellOf
 allowed-read c =
     let cell = c .before .before in
-    c .before .cells-for .ensures ∙ rw (cell .cell-in .ensures, cell .before .find-property .ensures)
+    c .before .cells-for .ensures ∙ rw (cell .cell-in .ensures, cell .before .find-property .ensures .0)
 
 cells-read : (c : tie.After-cells-of) → c .cells-of .result ≡ regCells (boardAt c)
 cells-read c = c .cells-of .ensures ∙ ap cellsOf (allowed-read c)
@@ -44,7 +44,7 @@ size-left c =
     rw (
       name-sound (sound .before .before),
       sym (allowed-read (cellsRead (c .before))) ∙ sound .enum-told .given .1,
-      ← size .find-property2 .ensures,
+      ← size .find-property2 .ensures .0,
       ← c .before .cell-in2 .ensures,
       ← c .is-number .ensures,
     )
@@ -100,7 +100,7 @@ returns-2 c =
     let call = test .before .before .before in
     rw (
       c .told-of2 .ensures,
-      call .before .before .before .find-property .ensures,
+      call .before .before .before .find-property .ensures .0,
       cells-read call,
       name-sound test,
       sym (allowed-read call) ∙ c .before .enum-told2 .given .1,
@@ -126,7 +126,7 @@ returns-3 c =
     let call = c .before .before in
     rw (
       c .told-of3 .ensures,
-      call .before .before .find-property2 .ensures,
+      call .before .before .find-property2 .ensures .0,
       cells-read (cellsRead (call .before)),
       size-left call,
       not-true (call .is-number .result) (c .before .if2 .taken),

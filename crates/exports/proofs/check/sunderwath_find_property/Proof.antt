@@ -1,6 +1,10 @@
 -- `sunderwath_find_property` meets its contract. Assumes nothing.
+use mathlib.Core.Path.{_≡_, ap, _∙_}
+use Prim.Native.Nat.{min}
 use native.Mathlib.Omega.{arith}
 use borrow.Author.Needs.{needs}
+use Rattle.laws.specs.facts.Limits.{noProperty}
+use Rattle.exports.specs.answers.Tables.{foundWord}
 use Rattle.exports.proofs.check.sunderwath_find_property.Statement.{statement}
 use Rattle.exports.proofs.check.sunderwath_find_property.Tie as tie
 
@@ -17,7 +21,10 @@ cast-result : tie.Need-cast-result
 cast-result c = omega (arith, c .at-most .ensures)
 
 returns : tie.Need-returns
-returns c = rw (← c .before .before .find-property .ensures, ← c .before .record-of .ensures) (c .at-most .ensures)
+returns c =
+    let call = c .before .before .find-property in
+    let word : c .at-most .result ≡ foundWord (call .result) = c .at-most .ensures ∙ ap (λ k. min k noProperty) (c .before .record-of .ensures) in
+    (word ∙ ap foundWord (call .ensures .0), (call .result, call .ensures .1, word))
 
 pub sunderwath-find-property-spec : {M : Type 1} → statement M
 sunderwath-find-property-spec = tie.close (tie.spec find-property-requires record-of-requires at-most-requires cast-result returns)

@@ -21,7 +21,7 @@ unfolding recordCheck leafCpu
 returns c =
     let found = c .before .before in
     let test = found .before in
-    rw (← test .before .record-shape .ensures, test .if1 .taken, ← found .find-indexed .ensures, ← c .before .leaf-cpu .ensures)
+    rw (← test .before .record-shape .ensures, test .if1 .taken, ← found .find-indexed .ensures .0, ← c .before .leaf-cpu .ensures)
     (c .leaf-check .ensures)
 
 no-leaf-requires : tie.Need-no-leaf-requires

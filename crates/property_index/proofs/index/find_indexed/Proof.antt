@@ -4,13 +4,14 @@ use Prim.Native.Nat.{_+_, _*_, _<_}
 use native.Mathlib.Omega.{arith}
 use borrow.Author.Needs.{needs}
 use Rattle.tables.specs.declared.Lookup.the-variants.{At}
+use Rattle.property_index.proofs.IndexLaws.{index-meets}
 use Rattle.property_index.proofs.KeyLaws.{number-lt}
 use Rattle.property_index.proofs.CodeLaws.{key-beyond, key-none, key-some}
 use Rattle.property_index.proofs.index.find_indexed.Statement.{statement}
 use Rattle.property_index.proofs.index.find_indexed.Tie as tie
 
 returns : tie.Need-returns
-returns c = key-beyond _ _ _ _ (omega (arith, c .before .words .given))
+returns c = index-meets _ _ _ _ (key-beyond _ _ _ _ (omega (arith, c .before .words .given)))
 
 mul-noted : tie.Need-mul-noted
 mul-noted c = search needs
@@ -37,7 +38,7 @@ cast-noted c =
     omega (arith, c .shared-slice-known2 .given (4 * number .before .before .before .before .args .i + number .key-number .result))
 
 returns-2 : tie.Need-returns-2
-returns-2 c = key-none _ _ _ _ (c .before .before .key-number .ensures) (c .if2 .taken)
+returns-2 c = index-meets _ _ _ _ (key-none _ _ _ _ (c .before .before .key-number .ensures) (c .if2 .taken))
 
 sub-found-at : tie.Need-sub-found-at
 sub-found-at c = search needs
@@ -48,7 +49,7 @@ found-at-requires c κs = search needs
 returns-3 : tie.Need-returns-3
 returns-3 c =
     let noted = c .before in
-    ap At (c .found-at .ensures) ∙ key-some _ _ _ _ (noted .before .before .key-number .ensures) (noted .if2 .left)
+    index-meets _ _ _ _ (ap At (c .found-at .ensures) ∙ key-some _ _ _ _ (noted .before .before .key-number .ensures) (noted .if2 .left))
 
 pub find-indexed-spec : {M : Type 1} → statement M
 find-indexed-spec =

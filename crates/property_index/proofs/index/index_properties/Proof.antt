@@ -6,6 +6,7 @@ use Rattle.laws.specs.facts.Limits.{maxProperties}
 use Rattle.tables.specs.facts.Board.{propCount}
 use Rattle.property_index.specs.answers.Index.{indexedBelow}
 use Rattle.property_index.proofs.CodeLaws.{keys-more}
+use Rattle.property_index.proofs.IndexLaws.{blank-indexes}
 use borrow.Author.Needs.{needs}
 use Rattle.property_index.proofs.index.index_properties.Statement.{statement}
 use Rattle.property_index.proofs.index.index_properties.Tie as tie
@@ -81,7 +82,7 @@ returns c =
     let loop = c .before .loop in
     let call = c .before .before in
     let all : loop .k ≡ min (propCount (call .before .before .before .args .props .now)) maxProperties = omega (arith, call .at-most .ensures) in
-    rw (loop .inv .1, all)
+    rw (loop .inv .1, all) (refl, blank-indexes _ _ _)
 
 pub index-properties-spec : {M : Type 1} → statement M
 index-properties-spec =

@@ -8,11 +8,12 @@ use lib.ListN.{getD}
 use borrow.Author.Tests.{lt-ltb, le-ltb, eq-eqb, ne-eqb}
 use Rattle.laws.specs.answers.Search.{lowest}
 use Rattle.laws.proofs.SearchLaws.{lowest-at, lowest-more}
 use Rattle.tables.specs.declared.Lookup.the-variants.{At, Missing}
 use Rattle.tables.specs.answers.Range.{rangeIs}
 use Rattle.tables.specs.facts.Board.{propCount, propNode, keyOffset, keyLength}
-use Rattle.tables.specs.answers.Lookup.{isProperty, foundAt, foundBelow, lookup}
+use Rattle.tables.specs.facts.Property.{foundAt}
+use Rattle.tables.specs.answers.Lookup.{isProperty, foundBelow, lookup}
 use Rattle.tables.proofs.CodePool.{word-zero}
 
 module _ (props pool : List ℕ) (node : ℕ) (key : List ℕ) where
   -- the test of record k: by its node, the word w, and then by its name

@@ -1,8 +1,8 @@
 -- `is_property` compares a property's node, and then its name. Assumes nothing.
 use borrow.Author.Needs.{needs}
-use Rattle.tables.proofs.CodeLookup.{other-node, by-name}
-use Rattle.tables.proofs.property.is_property.Statement.{statement}
-use Rattle.tables.proofs.property.is_property.Tie as tie
+use Rattle.lookup.proofs.CodeLookup.{other-node, by-name}
+use Rattle.lookup.proofs.is_property.Statement.{statement}
+use Rattle.lookup.proofs.is_property.Tie as tie
 
 prop-word-requires : tie.Need-prop-word-requires
 prop-word-requires c κs = search needs

@@ -4,11 +4,12 @@ use Prim.Native.Nat.{_≤_, _-_}
 use native.Mathlib.Omega.{arith}
 use borrow.Author.Needs.{needs}
 use Rattle.laws.specs.answers.Search.{lowest}
 use Rattle.tables.specs.declared.Lookup.the-variants.{At}
 use Rattle.tables.specs.answers.Lookup.{isProperty}
-use Rattle.tables.proofs.CodeLookup.{found-at, found-none, none-more, none-yet}
-use Rattle.tables.proofs.property.find_property.Statement.{statement}
-use Rattle.tables.proofs.property.find_property.Tie as tie
+use Rattle.lookup.proofs.CodeLookup.{found-at, found-none, none-more, none-yet}
+use Rattle.lookup.proofs.FindsLaws.{lookup-meets}
+use Rattle.lookup.proofs.find_property.Statement.{statement}
+use Rattle.lookup.proofs.find_property.Tie as tie
 
 abbrev Inv-loop : tie.InvT-loop
 Inv-loop props pool node key count left₀ left = (left ≤ count) × (lowest (isProperty props pool node key) (count - left) ≡ count - left)
@@ -32,8 +33,9 @@ returns : tie.Need-returns Inv-loop μ-loop
 returns c =
     let test = c .before in
     let call = test .before in
-    ap At (c .found-at .ensures)
-    ∙ found-at _ _ _ _ _ (call .before .before .loop .inv .1) (sym (call .is-property .ensures) ∙ test .if1 .taken) (omega arith)
+    lookup-meets _ _ _ _
+    (ap At (c .found-at .ensures)
+    ∙ found-at _ _ _ _ _ (call .before .before .loop .inv .1) (sym (call .is-property .ensures) ∙ test .if1 .taken) (omega arith))
 
 sub-left : tie.Need-sub-left Inv-loop μ-loop
 sub-left c = search needs
@@ -47,7 +49,7 @@ loop-again c =
     (omega arith, none-more _ _ _ _ _ _ (call .before .before .loop .inv .1) (sym (call .is-property .ensures) ∙ c .if1 .left) (omega arith))
 
 returns-2 : tie.Need-returns-2 Inv-loop μ-loop
-returns-2 c = found-none _ _ _ _ _ (omega arith) (c .before .loop .inv .1)
+returns-2 c = lookup-meets _ _ _ _ (found-none _ _ _ _ _ (omega arith) (c .before .loop .inv .1))
 
 pub find-property-spec : {M : Type 1} → statement M
 find-property-spec =

@@ -1,0 +1,6 @@
+-- The lowest number of a kind.
+use Prim.Native.Nat.{ℕ, _<_}
+
+pub record Lowest (P : ℕ → Type 0) (k : ℕ) : Type 0 where
+  pub holds : P k
+  pub none-lower : (j : ℕ) → j < k → P j → ⊥

@@ -1,0 +1,2 @@
+-- What the contract of `find_property` cites.
+pub mod facts
