@@ -325,6 +325,29 @@ static uint32_t find(const struct board *board, uint32_t node, const char *name)
                                     strlen(name));
 }
 
+/* A record that breaks rule 7 does not matter behind the match. Each word of
+ * the last record is broken in turn, and then all of them. */
+static void lookups(void)
+{
+    struct board board;
+    uint32_t *last = board.props + 5 * (PROPS - 1);
+    uint32_t word;
+    int good = 1;
+
+    whole_case(&board);
+    report("find_property", find(&board, 6, "reg") == 8);
+    report("find_property, none", find(&board, 2, "reg") == NONE);
+    report("find_property, last record", find(&board, 6, "phandle") == 9);
+    for (word = 0; word < SUNDERWATH_PROPERTY_WORDS; word++) {
+        whole_case(&board);
+        last[word] = 0xFFFFFFFF;
+        good &= checks_as(&board, 7, 9) && find(&board, 6, "reg") == 8;
+    }
+    memset(last, 0xFF, SUNDERWATH_PROPERTY_WORDS * sizeof *last);
+    good &= checks_as(&board, 7, 9) && find(&board, 6, "reg") == 8;
+    report("find_property, 7 behind it", good);
+}
+
 static void test_calls(void)
 {
     struct board board;
@@ -332,8 +355,6 @@ static void test_calls(void)
     whole_case(&board);
     report("49 answer space", writes_nothing(&board));
     report("check_tables", checks_as(&board, 0, 0));
-    report("find_property", find(&board, 6, "reg") == 8);
-    report("find_property, none", find(&board, 2, "reg") == NONE);
     board.nodes[2] = 3; /* no rule of check_tables */
     report("check_tables, name", checks_as(&board, 0, 0));
     board.props[5 * 9 + 4] = 0xFFFFFFFF;
@@ -348,6 +369,7 @@ int main(void)
     refusals();
     second_places();
     other_second_places();
+    lookups();
     test_calls();
     printf("%d different\n", failures);
     return failures == 0 ? 0 : 1;

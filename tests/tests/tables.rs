@@ -1,8 +1,8 @@
-//! check_tables and find_property against the second reader.
+//! check_tables against the second reader.
 
 use sunderwath_tests::answer::{Answer, ANSWER_WORDS, SHORT_ANSWER};
-use sunderwath_tests::build::damage::{garbage, spoil_tables, spoil_tree};
-use sunderwath_tests::build::shapes::{fill_up, regular_board, valid_board};
+use sunderwath_tests::build::damage::repeat;
+use sunderwath_tests::build::mix::damaged_tables;
 use sunderwath_tests::build::worked::whole_case;
 use sunderwath_tests::build::{text, Board};
 use sunderwath_tests::rng::Rng;
@@ -66,13 +66,6 @@ fn node(board: &mut Board, record: usize, word: usize) -> &mut u32 {
 
 fn prop(board: &mut Board, at: usize, word: usize) -> &mut u32 {
     &mut board.props[5 * at + word]
-}
-
-/// Makes property `later` a copy of property `earlier`.
-fn repeat(board: &mut Board, earlier: usize, later: usize) {
-    board
-        .props
-        .copy_within(5 * earlier..5 * earlier + 3, 5 * later);
 }
 
 #[test]
@@ -413,35 +406,6 @@ fn answer_lengths() {
     }
 }
 
-fn damaged(rng: &mut Rng) -> Board {
-    if rng.one_in(8) {
-        return garbage(rng);
-    }
-    let (width, mut root) = valid_board(rng, 6);
-    if rng.one_in(3) {
-        spoil_tree(rng, &mut root);
-    }
-    let mut board = if rng.one_in(2) {
-        Board::of(width, &root)
-    } else {
-        Board::shuffled(width, &root, rng)
-    };
-    for _ in 0..rng.below(3) {
-        spoil_tables(rng, &mut board);
-    }
-    if rng.one_in(500) {
-        let mut large = regular_board(16);
-        fill_up(&mut large, rng.between(1020, 1026), rng.between(4090, 4099));
-        board = Board::of(64, &large);
-        board.pool.resize(rng.between(65530, 65540), 0);
-    }
-    if rng.one_in(10) && board.prop_count() > 1 {
-        let (a, b) = (rng.below(board.prop_count()), rng.below(board.prop_count()));
-        repeat(&mut board, a, b);
-    }
-    board
-}
-
 #[test]
 fn random_damage() {
     let seed = 0x7AB1_E500;
@@ -449,83 +413,9 @@ fn random_damage() {
     let mut counts = [0u32; 9];
     let boards = 120_000;
     for _ in 0..boards {
-        let board = damaged(&mut rng);
+        let board = damaged_tables(&mut rng);
         counts[compare(&board).number as usize] += 1;
     }
     println!("{boards} damaged tables, seed {seed:#x}, numbers 0 to 8: {counts:?}");
     assert!(counts.iter().all(|&count| count > 0));
-}
-
-fn compare_find(board: &Board, owner: u32, name: &[u8]) -> u32 {
-    let ours = ffi::find_property(&board.props, &board.pool, owner, name);
-    let other = second::find_property(&board.props, &board.pool, owner, name);
-    assert_eq!(
-        ours,
-        other,
-        "{name:?} of node {owner} in\n{}",
-        text::write(board)
-    );
-    ours
-}
-
-#[test]
-fn find_in_sound_tables() {
-    let board = base();
-    assert_eq!(compare_find(&board, 0, b"#address-cells"), 0);
-    assert_eq!(compare_find(&board, 0, b"#size-cells"), 1);
-    assert_eq!(compare_find(&board, 3, b"cpu"), 2);
-    assert_eq!(compare_find(&board, 4, b"cpu"), 3);
-    assert_eq!(compare_find(&board, 6, b"phandle"), 9);
-    assert_eq!(compare_find(&board, 6, b"phandl"), NONE);
-    assert_eq!(compare_find(&board, 6, b"phandles"), NONE);
-    assert_eq!(compare_find(&board, 1, b"cpu"), NONE);
-    assert_eq!(compare_find(&board, 7, b"cpu"), NONE);
-    assert_eq!(compare_find(&board, NONE, b"cpu"), NONE);
-    let mut twice = plain(1, 9);
-    repeat(&mut twice, 2, 7);
-    assert_eq!(compare_find(&twice, 0, b"0002"), 2);
-    // A name outside the pool is passed over.
-    *prop(&mut twice, 2, 1) = NONE;
-    assert_eq!(compare_find(&twice, 0, b"0002"), 7);
-    twice.props.clear();
-    assert_eq!(compare_find(&twice, 0, b"0002"), NONE);
-}
-
-#[test]
-fn find_in_damaged_tables() {
-    let seed = 0xF17D;
-    let mut rng = Rng::new(seed);
-    let (mut found, mut missed) = (0, 0);
-    for _ in 0..60_000 {
-        let mut board = damaged(&mut rng);
-        // Whole records only.
-        board.props.truncate(5 * board.prop_count());
-        let owner = rng.below(board.node_count() + 2) as u32;
-        let listed = second_name(&mut rng, &board);
-        let fixed = rng
-            .pick(&["cpu", "reg", "phandle", "device_type"])
-            .as_bytes();
-        for (node, name) in [(owner, fixed), (owner, &listed.1), (listed.0, &listed.1)] {
-            if name.is_empty() {
-                continue;
-            }
-            match compare_find(&board, node, name) {
-                NONE => missed += 1,
-                _ => found += 1,
-            }
-        }
-    }
-    println!("find_property, seed {seed:#x}: found {found}, not found {missed}");
-    assert!(found > 0 && missed > 0);
-}
-
-/// Node and name of one of the properties, or nothing.
-fn second_name(rng: &mut Rng, board: &Board) -> (u32, Vec<u8>) {
-    if board.prop_count() == 0 {
-        return (0, Vec::new());
-    }
-    let at = 5 * rng.below(board.prop_count());
-    let (from, length) = (board.props[at + 1] as usize, board.props[at + 2] as usize);
-    let name = board.pool.get(from..from.saturating_add(length));
-    (board.props[at], name.unwrap_or_default().to_vec())
 }

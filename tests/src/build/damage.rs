@@ -331,6 +331,12 @@ fn swap_records(rng: &mut Rng, board: &mut Board) {
     }
 }
 
+/// Gives property `later` the node and the name of property `earlier`.
+pub fn repeat(board: &mut Board, earlier: usize, later: usize) {
+    let from = 5 * earlier;
+    board.props.copy_within(from..from + 3, 5 * later);
+}
+
 /// Tables of random words, small enough to get past some rules at times.
 pub fn garbage(rng: &mut Rng) -> Board {
     let nodes = rng.below(30);

@@ -1,7 +1,7 @@
 //! The mixture of boards that the gate and the long run compare.
 
-use super::damage::{garbage, spoil_tables, spoil_tree};
-use super::shapes::{fill_up, valid_board};
+use super::damage::{garbage, repeat, spoil_tables, spoil_tree};
+use super::shapes::{fill_up, regular_board, valid_board};
 use super::{Board, Node, FULL_ROOM};
 use crate::rng::Rng;
 
@@ -68,6 +68,32 @@ pub fn large_board(rng: &mut Rng) -> Board {
     board.room = FULL_ROOM;
     if rng.one_in(4) {
         spoil_tables(rng, &mut board);
+    }
+    board
+}
+
+/// Tables that break each of rules 1 to 8 often enough.
+pub fn damaged_tables(rng: &mut Rng) -> Board {
+    if rng.one_in(8) {
+        return garbage(rng);
+    }
+    let (width, mut root) = valid_board(rng, 6);
+    if rng.one_in(3) {
+        spoil_tree(rng, &mut root);
+    }
+    let mut board = lay_out(rng, width, &root);
+    for _ in 0..rng.below(3) {
+        spoil_tables(rng, &mut board);
+    }
+    if rng.one_in(500) {
+        let mut large = regular_board(16);
+        fill_up(&mut large, rng.between(1020, 1026), rng.between(4090, 4099));
+        board = Board::of(64, &large);
+        board.pool.resize(rng.between(65530, 65540), 0);
+    }
+    if rng.one_in(10) && board.prop_count() > 1 {
+        let (a, b) = (rng.below(board.prop_count()), rng.below(board.prop_count()));
+        repeat(&mut board, a, b);
     }
     board
 }

@@ -12,6 +12,7 @@ pub mod flat_form;
 pub mod flat_large;
 pub mod flat_mix;
 pub mod flat_trees;
+pub mod lookup;
 pub mod mix;
 pub mod order;
 pub mod overlap;

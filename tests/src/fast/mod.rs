@@ -9,4 +9,4 @@ mod tables;
 pub use board::read_tables;
 pub use flat::{read_blob, read_flat, FlatAnswer};
 pub use hash::{list_hash, list_slot};
-pub use tables::check_tables;
+pub use tables::{check_tables, find_property};

@@ -1,4 +1,4 @@
-//! Rules 1 to 8 in one pass over each table.
+//! Rules 1 to 8 in one pass over each table, and a lookup that stops at its match.
 
 use crate::answer::Answer;
 
@@ -103,4 +103,18 @@ fn check_props(count: u32, props: &[u32], pool: &[u8]) -> Result<(), Answer> {
         seen[cell] = at as u16;
     }
     Ok(())
+}
+
+/// The lowest property of a node with a name that is in the pool, or 0xFFFFFFFF.
+pub fn find_property(props: &[u32], pool: &[u8], node: u32, name: &[u8]) -> u32 {
+    for (at, prop) in props.chunks_exact(5).enumerate() {
+        if prop[0] == node
+            && prop[2] as usize == name.len()
+            && inside(prop[1], prop[2], pool)
+            && slice(pool, prop[1], prop[2]) == name
+        {
+            return at as u32;
+        }
+    }
+    u32::MAX
 }
