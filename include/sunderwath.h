@@ -306,7 +306,9 @@ uint32_t sunderwath_check_tables(uint32_t width,
 
 /*
  * The record number of the lowest property of `node` with that name whose name
- * lies inside the pool, or SUNDERWATH_NONE.
+ * lies inside the pool, or SUNDERWATH_NONE. The search ends at its match: where
+ * the records up to the lowest match keep rule 7 that match is answered,
+ * whatever later records break.
  */
 uint32_t sunderwath_find_property(const uint32_t *props, size_t p,
                                   const uint8_t *pool, size_t bytes,
