@@ -4,7 +4,8 @@
  * The library takes the /cpus subtree of a devicetree as plain tables, checks
  * it against the cpu and cpu-map bindings, and writes one row for each
  * processor: its place in the map, its MPIDR and its slot in a collision-free
- * hash of all MPIDRs. It fills such tables from a flattened devicetree, too.
+ * hash of all MPIDRs. Beside the rows it can fill a table from slot to row. It
+ * fills the tables of a /cpus subtree from a flattened devicetree, too.
  *
  * WHAT A CALLER OWES, for every function below
  *
@@ -12,9 +13,10 @@
  *    of 64 bits, or bytes of a blob or pool), never a size in bytes.
  *  - Each pointer is valid for its count of elements, aligned for its type and
  *    not NULL, even where the count is 0.
- *  - The parts that are written (rows, answer; for read_flat the two tables
- *    and the answer) overlap no other part that is lent to the same call.
- *    Parts that are only read may overlap each other.
+ *  - The parts that are written (rows, answer; for read_tables_slots the table
+ *    of slots besides; for read_flat the two tables and the answer) overlap no
+ *    other part that is lent to the same call. Parts that are only read may
+ *    overlap each other.
  *  - No other thread changes a lent part during the call. The library keeps no
  *    state and no pointer after it returns.
  *
@@ -28,6 +30,10 @@
  *  - Rows are written on acceptance only: 12 words for each processor from
  *    word 0. Everything behind the last row stays as it is. A refusal changes
  *    no word of the rows.
+ *  - The table of read_tables_slots is written on acceptance only: each of its
+ *    first 2^bits entries, where bits is the answer's SUNDERWATH_ANSWER_BITS.
+ *    Everything behind stays as it is. A refusal changes no entry of the table
+ *    and no word of the rows.
  *  - The tables of read_flat are written on acceptance only, from word 0: 3
  *    words for each node, 5 for each property. Everything behind stays as it
  *    is. A refusal changes no word of them.
@@ -93,7 +99,8 @@ extern "C" {
 #define SUNDERWATH_ROW_THREAD 10     /* thread number or GAP */
 #define SUNDERWATH_ROW_SLOT 11       /* slot; 0xFFFFFFFF is a slot here */
 
-/* A number that the map does not have (words 4 to 8 and 10 of a row). */
+/* A number that the map does not have (words 4 to 8 and 10 of a row); in a
+ * table of slots, the entry of a slot that no processor has. */
 #define SUNDERWATH_GAP 0xFFFFFFFFu
 
 /* Words of a node record: parent, name offset, name length. */
@@ -107,21 +114,26 @@ extern "C" {
  * no such property. */
 #define SUNDERWATH_NONE 0xFFFFFFFFu
 
-/* Limits: bytes of a blob, records, bytes of a pool, cpu nodes. */
+/* Limits: bytes of a blob, records, bytes of a pool, cpu nodes; bits of a hash
+ * that has a table of slots, and the entries of a table with room for each such
+ * hash. */
 #define SUNDERWATH_MAX_BLOB 65536
 #define SUNDERWATH_MAX_NODES 1024
 #define SUNDERWATH_MAX_PROPERTIES 4096
 #define SUNDERWATH_MAX_POOL 65536
 #define SUNDERWATH_MAX_CPUS 256
+#define SUNDERWATH_MAX_TABLE_BITS 12
+#define SUNDERWATH_MAX_TABLE (1u << SUNDERWATH_MAX_TABLE_BITS) /* 4,096 */
 
 /*
- * The bytes of stack that sunderwath_read_tables needs at most. Measured on
- * x86-64, not proved: the proof is about a machine without a stack. The most is
- * needed by 1,024 records nested in the map or below a cpu, as the ancestor
- * test of rule 6 recurses on the parent; boards of 16 and of 256 cpus need
- * 16,720 bytes. tests/c/stack_test.c measures these boards.
+ * The bytes of stack that sunderwath_read_tables and
+ * sunderwath_read_tables_slots need at most. Measured on x86-64, not proved:
+ * the proof is about a machine without a stack. The most is needed by 1,024
+ * records nested in the map or below a cpu, as the ancestor test of rule 6
+ * recurses on the parent; boards of 16 and of 256 cpus need 16,912 bytes, with
+ * a table of slots 16,960. tests/c/stack_test.c measures these boards.
  */
-#define SUNDERWATH_STACK_BYTES 49328
+#define SUNDERWATH_STACK_BYTES 49568
 
 /*
  * The bytes of stack that sunderwath_read_flat needs at most, whatever the
@@ -226,6 +238,13 @@ enum sunderwath_number {
     /* row buffer too short; 0 */
     SUNDERWATH_ROW_SPACE = 27,
 
+    /* ---- the table of slots (told by sunderwath_read_tables_slots) ---- */
+
+    /* hash of more than 12 bits; 0 */
+    SUNDERWATH_SLOT_TABLE_BITS = 38,
+    /* table of fewer entries than 2^bits; 0 */
+    SUNDERWATH_SLOT_TABLE_SPACE = 39,
+
     /* ---- lists of MPIDRs ---- */
 
     /* empty or more than 256; 0 */
@@ -290,6 +309,30 @@ uint32_t sunderwath_read_tables(uint32_t width,
                                 const uint8_t *pool, size_t bytes,
                                 uint32_t *rows, size_t words,
                                 uint32_t *answer, size_t a);
+
+/*
+ * Reads a board exactly as sunderwath_read_tables does and fills, beside the
+ * rows, a table from slot to row: entry s is the number of the row whose slot
+ * is s, counted from 0, or SUNDERWATH_GAP where no processor has s. 2^bits
+ * entries are filled, one for each slot. After 27 it tells 38 and 39. A table
+ * of SUNDERWATH_MAX_TABLE entries has room for every board that 38 does not
+ * refuse; a board that 38 refuses is still read by sunderwath_read_tables.
+ *
+ * A processor that wakes makes its slot of its own MPIDR with the answer's mask
+ * and shifts: of each affinity level the bits under the mask, moved right by
+ * the level's shift, and the four joined by or. The slot of a processor of the
+ * board is below 2^bits, and its entry is the row. An MPIDR that is not on the
+ * board can fall on a slot that no processor has, or on that of another: before
+ * a row is used, its MPIDR is to be compared with the affinity bits (39..32 and
+ * 23..0) of the own one. examples/wake_slot.c does all of this.
+ */
+uint32_t sunderwath_read_tables_slots(uint32_t width,
+                                      const uint32_t *nodes, size_t nodes_n,
+                                      const uint32_t *props, size_t props_n,
+                                      const uint8_t *pool, size_t pool_n,
+                                      uint32_t *rows, size_t rows_n,
+                                      uint32_t *table, size_t table_n,
+                                      uint32_t *answer, size_t answer_n);
 
 /*
  * FOR TESTS ONLY. Programs should call sunderwath_read_tables, which does both

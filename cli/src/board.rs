@@ -1,12 +1,14 @@
-//! The library's call, and the board that it accepts.
+//! The library's call that reads a board, and the board that it accepts.
 
 use crate::tables::Tables;
 
-const ANSWER_WORDS: usize = 11;
+pub const ANSWER_WORDS: usize = 11;
 const ANSWER_SECOND: usize = 10;
 const NO_PROPERTY: u32 = u32::MAX;
 const ROW_WORDS: usize = 12;
 const MOST_CPUS: usize = 256;
+/// The words of rows for every board.
+pub const MOST_WORDS: usize = ROW_WORDS * MOST_CPUS;
 const GAP: u32 = u32::MAX;
 
 extern "C" {
@@ -57,7 +59,7 @@ pub struct Board {
     pub rows: Vec<Row>,
 }
 
-fn number_or_none(word: u32) -> Option<u32> {
+pub fn number_or_none(word: u32) -> Option<u32> {
     (word != GAP).then_some(word)
 }
 
@@ -79,9 +81,34 @@ fn row(words: &[u32]) -> Row {
     }
 }
 
+/// What a call has told: the number returned, the words of the answer, and the rows.
+pub fn told(
+    width: u32,
+    number: u32,
+    answer: &[u32; ANSWER_WORDS],
+    rows: &[u32],
+) -> Result<Board, Refusal> {
+    if number != 0 {
+        let second = answer[ANSWER_SECOND];
+        return Err(Refusal {
+            number,
+            place: answer[1],
+            property: (second != NO_PROPERTY).then_some(second),
+        });
+    }
+    let count = answer[2] as usize;
+    Ok(Board {
+        width,
+        mask: wide(answer[4], answer[3]),
+        shifts: [answer[5], answer[6], answer[7], answer[8]],
+        bits: answer[9],
+        rows: rows.chunks(ROW_WORDS).take(count).map(row).collect(),
+    })
+}
+
 /// Reads the tables of a board of the given width.
 pub fn read(width: u32, tables: &Tables) -> Result<Board, Refusal> {
-    let mut rows = vec![0; ROW_WORDS * MOST_CPUS];
+    let mut rows = vec![0; MOST_WORDS];
     let mut answer = [0; ANSWER_WORDS];
     let Tables { nodes, props, pool } = tables;
     // SAFETY: each pointer comes with the length of its own vector or array,
@@ -101,20 +128,5 @@ pub fn read(width: u32, tables: &Tables) -> Result<Board, Refusal> {
             answer.len(),
         )
     };
-    if number != 0 {
-        let second = answer[ANSWER_SECOND];
-        return Err(Refusal {
-            number,
-            place: answer[1],
-            property: (second != NO_PROPERTY).then_some(second),
-        });
-    }
-    let count = answer[2] as usize;
-    Ok(Board {
-        width,
-        mask: wide(answer[4], answer[3]),
-        shifts: [answer[5], answer[6], answer[7], answer[8]],
-        bits: answer[9],
-        rows: rows.chunks(ROW_WORDS).take(count).map(row).collect(),
-    })
+    told(width, number, &answer, &rows)
 }

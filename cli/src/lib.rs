@@ -1,5 +1,6 @@
-//! The parts of the `sunderwath` command: the library's two calls (a blob into
-//! tables, tables into rows), long blobs cut down to /cpus, messages, output.
+//! The parts of the `sunderwath` command: the library's three calls (a blob into
+//! tables, tables into rows, and with them a table of slots), long blobs cut down
+//! to /cpus, messages, output.
 
 pub mod board;
 pub mod cut;
@@ -13,6 +14,7 @@ pub mod messages;
 pub mod options;
 pub mod output;
 pub mod report;
+pub mod slots;
 pub mod stream;
 pub mod tables;
 mod topology;

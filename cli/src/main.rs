@@ -2,12 +2,14 @@
 
 use std::io::{self, Write};
 use std::process::ExitCode;
+use sunderwath::board::{self, Refusal};
 use sunderwath::details::Told;
 use sunderwath::escape::for_terminal;
 use sunderwath::flat::{self, Reading};
 use sunderwath::options::{self, Format, Options, Request, USAGE};
 use sunderwath::report::Report;
-use sunderwath::{board, input, output};
+use sunderwath::tables::Tables;
+use sunderwath::{input, output, slots};
 
 const REFUSED: u8 = 1;
 const UNREADABLE: u8 = 2;
@@ -65,6 +67,18 @@ fn refuse(options: &Options, report: &Report) -> ExitCode {
     }
 }
 
+/// The text of an accepted board. Only `--slots` needs a table of slots, which not every board has.
+fn text(options: &Options, tables: &Tables) -> Result<String, Refusal> {
+    let board = || board::read(options.width, tables);
+    Ok(match options.format {
+        Format::Table => output::table(tables, &board()?),
+        Format::Parsable => output::parsable(tables, &board()?),
+        Format::Json => output::json(tables, &board()?),
+        Format::Tree => output::tree(tables, &board()?),
+        Format::Slots => output::slots(tables, &slots::read(options.width, tables)?),
+    })
+}
+
 fn run(options: &Options) -> ExitCode {
     let file = match input::read(&options.file) {
         Ok(file) => file,
@@ -80,8 +94,8 @@ fn run(options: &Options) -> ExitCode {
     if let Some(note) = note {
         tell(options, &format!("note: {note}"));
     }
-    match board::read(options.width, &tables) {
-        Ok(board) => print(&output::print(options.format, &tables, &board)),
+    match text(options, &tables) {
+        Ok(text) => print(&text),
         Err(refusal) => {
             let told = Told {
                 tables: &tables,

@@ -15,7 +15,7 @@ const fn message(number: u32, check: &'static str, sentence: &'static str) -> Me
     }
 }
 
-pub const MESSAGES: [Message; 38] = [
+pub const MESSAGES: [Message; 40] = [
     message(0, "accepted", "the board is accepted"),
     message(1, "board_width", "the width is neither 32 nor 64"),
     message(
@@ -186,6 +186,16 @@ pub const MESSAGES: [Message; 38] = [
         "#size-cells must be one cell, with the value 0",
     ),
     message(
+        38,
+        "slot_table_bits",
+        "the hash has more than 12 bits, too many for a table of slots",
+    ),
+    message(
+        39,
+        "slot_table_space",
+        "the table of slots is too short for the hash",
+    ),
+    message(
         49,
         "answer_space",
         "the answer has fewer words than stated",
@@ -212,7 +222,7 @@ mod tests {
     #[test]
     fn every_number_has_one_message() {
         let numbers: Vec<u32> = MESSAGES.iter().map(|m| m.number).collect();
-        let wanted: Vec<u32> = (0..=37).filter(|&n| n != 14).chain([49]).collect();
+        let wanted: Vec<u32> = (0..=39).filter(|&n| n != 14).chain([49]).collect();
         assert_eq!(numbers, wanted);
     }
 

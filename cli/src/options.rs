@@ -13,6 +13,7 @@ standard input.
   -p, --parse        print comma-separated values, with comments after #
   -j, --json         print JSON, and why a board is refused as an object
   -t, --tree         print the cpu-map as an indented tree
+  -s, --slots        print each slot and the processor that has it, - for none
   -q, --quiet        print no note, and no message when the board is refused
   -h, --help         print this help
   -V, --version      print the version
@@ -26,6 +27,7 @@ pub enum Format {
     Parsable,
     Json,
     Tree,
+    Slots,
 }
 
 #[derive(Clone, Debug, PartialEq, Eq)]
@@ -58,6 +60,7 @@ fn flag(options: &mut Options, argument: &str) -> Result<(), String> {
         "-p" | "--parse" => options.format = Format::Parsable,
         "-j" | "--json" => options.format = Format::Json,
         "-t" | "--tree" => options.format = Format::Tree,
+        "-s" | "--slots" => options.format = Format::Slots,
         _ => match argument.strip_prefix("--width=") {
             Some(value) => options.width = width(value)?,
             None => return Err(format!("unknown option '{argument}'")),
@@ -125,6 +128,22 @@ mod tests {
     }
 
     #[test]
+    fn last_format_counts() {
+        for (line, wanted) in [
+            ("a", Format::Table),
+            ("-s a", Format::Slots),
+            ("-j -p -t --slots a", Format::Slots),
+            ("-s -t a", Format::Tree),
+            ("--slots a --json", Format::Json),
+        ] {
+            let Ok(Request::Run(options)) = parsed(line) else {
+                panic!("{line}");
+            };
+            assert_eq!(options.format, wanted, "{line}");
+        }
+    }
+
+    #[test]
     fn wrong_usage() {
         for line in [
             "",
@@ -134,6 +153,8 @@ mod tests {
             "--width 5 a",
             "-x a",
             "--wid 32 a",
+            "--slot a",
+            "--slots=1 a",
         ] {
             assert!(parsed(line).is_err(), "{line}");
         }

@@ -1,23 +1,13 @@
-//! Prints an accepted board: as a table, parsable, as JSON or as a tree.
+//! Prints an accepted board: as a table, parsable, as JSON, as a tree or slot by slot.
 
 use crate::board::{Board, Row};
 use crate::escape::{for_commas, for_json, for_terminal};
-use crate::options::Format;
 use crate::tables::Tables;
 use std::fmt::Write;
 
 const HEADER: [&str; 8] = [
     "LEAF", "CPU", "MPIDR", "SOCKET", "CLUSTER", "CORE", "THREAD", "SLOT",
 ];
-
-pub fn print(format: Format, tables: &Tables, board: &Board) -> String {
-    match format {
-        Format::Table => table(tables, board),
-        Format::Parsable => parsable(tables, board),
-        Format::Json => json(tables, board),
-        Format::Tree => tree(tables, board),
-    }
-}
 
 /// The records from below the map down to a leaf.
 fn chain(tables: &Tables, leaf: u32) -> Vec<u32> {
@@ -70,7 +60,7 @@ fn hash_line(board: &Board) -> String {
     )
 }
 
-fn table(tables: &Tables, board: &Board) -> String {
+pub fn table(tables: &Tables, board: &Board) -> String {
     let mut lines = vec![HEADER.map(String::from)];
     let shown = |row| columns(tables, row, "-").map(|value| for_terminal(&value));
     lines.extend(board.rows.iter().map(shown));
@@ -91,7 +81,7 @@ fn table(tables: &Tables, board: &Board) -> String {
     text + &hash_line(board)
 }
 
-fn parsable(tables: &Tables, board: &Board) -> String {
+pub fn parsable(tables: &Tables, board: &Board) -> String {
     let mut text = format!(
         "# mask={:#x} shifts={} bits={}\n# {}\n",
         board.mask,
@@ -127,7 +117,7 @@ fn json_row(tables: &Tables, row: &Row) -> String {
     )
 }
 
-fn json(tables: &Tables, board: &Board) -> String {
+pub fn json(tables: &Tables, board: &Board) -> String {
     let rows: Vec<String> = board.rows.iter().map(|row| json_row(tables, row)).collect();
     format!(
         "{{\n  \"width\": {},\n  \"count\": {},\n  \"mask\": \"{:#x}\",\n  \
@@ -142,7 +132,7 @@ fn json(tables: &Tables, board: &Board) -> String {
 }
 
 /// Each node of the map once, a leaf with its cpu, MPIDR and slot.
-fn tree(tables: &Tables, board: &Board) -> String {
+pub fn tree(tables: &Tables, board: &Board) -> String {
     let mut text = String::from("cpu-map\n");
     let mut open: Vec<u32> = Vec::new();
     for row in &board.rows {
@@ -163,4 +153,18 @@ fn tree(tables: &Tables, board: &Board) -> String {
         open = records;
     }
     text + &hash_line(board)
+}
+
+/// One line for each slot: the path of its leaf, or a hyphen where no processor has it.
+pub fn slots(tables: &Tables, slots: &[Option<Row>]) -> String {
+    let width = slots.len().saturating_sub(1).to_string().len();
+    let mut text = String::new();
+    for (slot, row) in slots.iter().enumerate() {
+        let leaf = match row {
+            Some(row) => for_terminal(&leaf_path(tables, row.leaf)),
+            None => "-".into(),
+        };
+        writeln!(text, "{slot:<width$} {leaf}").expect("strings can be written to");
+    }
+    text
 }

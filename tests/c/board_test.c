@@ -3,28 +3,11 @@
  * of the scope paper and on some refusals, those with a second place among
  * them. Prints a line per case; exit status 1 on a difference.
  */
-#include "sunderwath.h"
+#include "board.h"
 
 #include <stdio.h>
-#include <string.h>
 
-#define PATTERN 0xA5A5A5A5u
-#define GUARD 4
-#define CPUS 2
-#define NODES 7
-#define PROPS 10
-#define ROWS (CPUS * SUNDERWATH_ROW_WORDS)
-#define GAP SUNDERWATH_GAP
-#define NONE SUNDERWATH_NONE
 #define ANSWER_ROOM (SUNDERWATH_ANSWER_WORDS + 2 * GUARD)
-
-struct board {
-    uint32_t width;
-    uint32_t nodes[NODES * SUNDERWATH_NODE_WORDS];
-    uint32_t props[PROPS * SUNDERWATH_PROPERTY_WORDS];
-    uint8_t pool[256];
-    size_t n, p, bytes;
-};
 
 static int failures;
 
@@ -33,88 +16,6 @@ static void report(const char *name, int good)
     printf("%-28s %s\n", name, good ? "ok" : "DIFFERENT");
     if (!good)
         failures++;
-}
-
-static uint32_t add_bytes(struct board *board, const void *bytes, size_t length)
-{
-    uint32_t offset = (uint32_t)board->bytes;
-
-    memcpy(board->pool + offset, bytes, length);
-    board->bytes += length;
-    return offset;
-}
-
-static void add_node(struct board *board, uint32_t parent, const char *name)
-{
-    uint32_t *node = board->nodes + board->n;
-
-    node[0] = parent;
-    node[1] = add_bytes(board, name, strlen(name));
-    node[2] = (uint32_t)strlen(name);
-    board->n += SUNDERWATH_NODE_WORDS;
-}
-
-static void add_prop(struct board *board, uint32_t node, const char *name,
-                     const void *value, size_t length)
-{
-    uint32_t *prop = board->props + board->p;
-
-    prop[0] = node;
-    prop[1] = add_bytes(board, name, strlen(name));
-    prop[2] = (uint32_t)strlen(name);
-    prop[3] = add_bytes(board, value, length);
-    prop[4] = (uint32_t)length;
-    board->p += SUNDERWATH_PROPERTY_WORDS;
-}
-
-static void add_cell(struct board *board, uint32_t node, const char *name,
-                     uint32_t value)
-{
-    uint8_t cell[4];
-
-    cell[0] = (uint8_t)(value >> 24);
-    cell[1] = (uint8_t)(value >> 16);
-    cell[2] = (uint8_t)(value >> 8);
-    cell[3] = (uint8_t)value;
-    add_prop(board, node, name, cell, sizeof cell);
-}
-
-static void whole_case(struct board *board)
-{
-    memset(board, 0, sizeof *board);
-    board->width = 64;
-    add_node(board, SUNDERWATH_NONE, "cpus");
-    add_node(board, 0, "cpu-map");
-    add_node(board, 1, "cluster0");
-    add_node(board, 2, "core0");
-    add_node(board, 2, "core1");
-    add_node(board, 0, "cpu@0");
-    add_node(board, 0, "cpu@100");
-    add_cell(board, 0, "#address-cells", 1);
-    add_cell(board, 0, "#size-cells", 0);
-    add_cell(board, 3, "cpu", 2);
-    add_cell(board, 4, "cpu", 1);
-    add_prop(board, 5, "device_type", "cpu", 4);
-    add_cell(board, 5, "reg", 0x0);
-    add_cell(board, 5, "phandle", 1);
-    add_prop(board, 6, "device_type", "cpu", 4);
-    add_cell(board, 6, "reg", 0x100);
-    add_cell(board, 6, "phandle", 2);
-}
-
-/* Whether a part holds these words behind its guard, and the pattern else. */
-static int holds(const uint32_t *part, size_t part_n, const uint32_t *words,
-                 size_t n)
-{
-    size_t i;
-    int good = 1;
-
-    for (i = 0; i < part_n; i++) {
-        int inside = i >= GUARD && i < GUARD + n;
-
-        good &= part[i] == (inside ? words[i - GUARD] : PATTERN);
-    }
-    return good;
 }
 
 /* Reads into a buffer of `words` words and into answers of the stated words and

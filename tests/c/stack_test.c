@@ -1,10 +1,11 @@
 /*
- * Measures the stack that sunderwath_read_tables and sunderwath_read_flat need.
- * Each board or blob is read on a stack of its own, painted before; afterwards
- * the paint that is gone is counted, less what an empty function takes there.
- * Prints the bytes of each; exit status 1 where a board needs more than
- * SUNDERWATH_STACK_BYTES, an ordinary one more than ORDINARY_BYTES, a blob more
- * than SUNDERWATH_FLAT_STACK_BYTES, or is not answered as expected.
+ * Measures the stack that sunderwath_read_tables, sunderwath_read_tables_slots
+ * and sunderwath_read_flat need. Each board or blob is read on a stack of its
+ * own, painted before; afterwards the paint that is gone is counted, less what
+ * an empty function takes there. Prints the bytes of each; exit status 1 where
+ * a board needs more than SUNDERWATH_STACK_BYTES, an ordinary one more than
+ * ORDINARY_BYTES, a blob more than SUNDERWATH_FLAT_STACK_BYTES, or is not
+ * answered as expected.
  */
 #define _XOPEN_SOURCE 700
 
@@ -20,7 +21,7 @@
 #define LAST (SUNDERWATH_MAX_NODES - 1)
 
 /* The most that boards without long chains of records have needed. */
-#define ORDINARY_BYTES 16880
+#define ORDINARY_BYTES 17120
 
 /* Of either table, in the largest blob. */
 #define MOST_RECORDS 5461
@@ -34,6 +35,7 @@ static uint32_t nodes[SUNDERWATH_MAX_NODES * SUNDERWATH_NODE_WORDS];
 static uint32_t props[SUNDERWATH_MAX_PROPERTIES * SUNDERWATH_PROPERTY_WORDS];
 static uint8_t pool[SUNDERWATH_MAX_POOL];
 static uint32_t rows[SUNDERWATH_MAX_CPUS * SUNDERWATH_ROW_WORDS];
+static uint32_t table[SUNDERWATH_MAX_TABLE];
 static uint32_t answer[SUNDERWATH_ANSWER_WORDS];
 static size_t n, p, bytes;
 
@@ -250,6 +252,14 @@ static void read_board(void)
                            SUNDERWATH_ANSWER_WORDS);
 }
 
+static void read_board_slots(void)
+{
+    sunderwath_read_tables_slots(64, nodes, n, props, p, pool, bytes, rows,
+                                 sizeof rows / sizeof *rows, table,
+                                 sizeof table / sizeof *table, answer,
+                                 SUNDERWATH_ANSWER_WORDS);
+}
+
 static void read_blob(void)
 {
     sunderwath_read_flat(blob.bytes, blob.n, flat_nodes,
@@ -287,7 +297,7 @@ static size_t bytes_touched(void (*function)(void))
 static void measure(const char *name, uint32_t number, uint32_t place)
 {
     /* none of a board here; read_flat does not write the word */
-    uint32_t second = reader == read_board ? SUNDERWATH_NONE : 0xA5A5A5A5;
+    uint32_t second = reader == read_blob ? 0xA5A5A5A5 : SUNDERWATH_NONE;
     size_t need;
     const char *verdict = "ok";
 
@@ -429,15 +439,22 @@ static void sum_up(const char *name, size_t bytes_said)
     largest = 0;
 }
 
-int main(void)
+static void boards(void (*call)(void))
 {
-    reader = read_board;
+    reader = call;
     limit = ORDINARY_BYTES;
     accepted_boards();
     limit = SUNDERWATH_STACK_BYTES;
     nested_in_the_map();
     nested_below_a_cpu();
     sum_up("SUNDERWATH_STACK_BYTES", SUNDERWATH_STACK_BYTES);
+}
+
+int main(void)
+{
+    boards(read_board);
+    puts("the same boards with a table of slots");
+    boards(read_board_slots);
 
     reader = read_blob;
     limit = SUNDERWATH_FLAT_STACK_BYTES;

@@ -1,12 +1,18 @@
 //! How often each number was told of boards, with a property record and without.
 
-use crate::answer::{Answer, NO_PROPERTY};
+use crate::answer::{Answer, NO_PROPERTY, SHORT_ANSWER};
 use crate::build::property_faults::NEEDED;
+use crate::second::SLOT_NUMBERS;
 use std::collections::BTreeMap;
 
 /// The numbers that read_tables tells.
 pub fn numbers() -> impl Iterator<Item = u32> {
     (1..=27).filter(|&number| number != 14).chain([36, 37])
+}
+
+/// The numbers that read_tables_slots tells, with 49 of a short answer.
+pub fn slot_numbers() -> impl Iterator<Item = u32> {
+    numbers().chain(SLOT_NUMBERS).chain([SHORT_ANSWER])
 }
 
 /// Answers by number, and by whether they have a property record.
@@ -35,9 +41,14 @@ impl Counts {
             && NEEDED.iter().all(|needed| both(needed.number))
     }
 
-    /// A line for each number told, with 0 for acceptance, and then the numbers
-    /// that were not told.
+    /// A line for each number of read_tables that was told, with 0 for acceptance,
+    /// and then the numbers that were not told.
     pub fn lines(&self) -> String {
+        self.lines_of(numbers())
+    }
+
+    /// The same of some numbers.
+    pub fn lines_of(&self, numbers: impl Iterator<Item = u32>) -> String {
         let line = |number: u32| {
             let with = match self.of_sort(number, true) {
                 0 => String::new(),
@@ -45,7 +56,7 @@ impl Counts {
             };
             format!("number {number:>2}: {}{with}\n", self.of(number))
         };
-        let all = std::iter::once(0).chain(numbers());
+        let all = std::iter::once(0).chain(numbers);
         let (told, other): (Vec<u32>, Vec<u32>) = all.partition(|&number| self.of(number) > 0);
         let told: String = told.into_iter().map(line).collect();
         format!("{told}not told: {other:?}")

@@ -50,6 +50,22 @@ mod raw {
             answer: *mut u32,
             a: usize,
         ) -> u32;
+        #[cfg(feature = "board")]
+        pub fn sunderwath_read_tables_slots(
+            width: u32,
+            nodes: *const u32,
+            n: usize,
+            props: *const u32,
+            p: usize,
+            pool: *const u8,
+            bytes: usize,
+            rows: *mut u32,
+            words: usize,
+            table: *mut u32,
+            entries: usize,
+            answer: *mut u32,
+            a: usize,
+        ) -> u32;
         #[cfg(feature = "flat")]
         pub fn sunderwath_read_flat(
             blob: *const u8,
@@ -150,6 +166,35 @@ pub fn read_tables_into(
     }
 }
 
+#[cfg(feature = "board")]
+pub fn read_tables_slots_into(
+    width: u32,
+    nodes: &[u32],
+    props: &[u32],
+    pool: &[u8],
+    rows: &mut [u32],
+    table: &mut [u32],
+    answer: &mut [u32],
+) -> u32 {
+    unsafe {
+        raw::sunderwath_read_tables_slots(
+            width,
+            nodes.as_ptr(),
+            nodes.len(),
+            props.as_ptr(),
+            props.len(),
+            pool.as_ptr(),
+            pool.len(),
+            rows.as_mut_ptr(),
+            rows.len(),
+            table.as_mut_ptr(),
+            table.len(),
+            answer.as_mut_ptr(),
+            answer.len(),
+        )
+    }
+}
+
 #[cfg(feature = "flat")]
 pub fn read_flat_into(
     blob: &[u8],
@@ -205,6 +250,19 @@ pub fn read_tables(
     rows: &mut [u32],
 ) -> Answer {
     answered(|answer| read_tables_into(width, nodes, props, pool, rows, answer))
+}
+
+/// The same with a table from slots to rows.
+#[cfg(feature = "board")]
+pub fn read_tables_slots(
+    width: u32,
+    nodes: &[u32],
+    props: &[u32],
+    pool: &[u8],
+    rows: &mut [u32],
+    table: &mut [u32],
+) -> Answer {
+    answered(|answer| read_tables_slots_into(width, nodes, props, pool, rows, table, answer))
 }
 
 #[cfg(feature = "flat")]

@@ -7,6 +7,8 @@ pub mod cases;
 pub mod compare;
 #[cfg(feature = "flat")]
 pub mod compare_flat;
+#[cfg(feature = "board")]
+pub mod compare_slots;
 pub mod counts;
 pub mod fast;
 #[cfg(feature = "fdt")]

@@ -3,6 +3,7 @@
 
 mod cells;
 mod cpus;
+mod hash;
 mod map;
 mod missing;
 mod near;
@@ -93,6 +94,7 @@ pub fn details(told: &Told) -> Option<String> {
         21 => Some(siblings::number(tables, told.refusal.place)),
         25 => map::same_cpu(told),
         26 => cpus::own_phandle(told),
+        38 => hash::bits(told),
         _ => None,
     }
 }
@@ -136,7 +138,7 @@ mod tests {
     #[test]
     fn nothing_to_say() {
         let tables = Tables::of_nodes(&[(0, "cpus"), (0, "cpu@0")]);
-        for number in [1, 13, 16, 18, 22, 25, 26, 27, 49] {
+        for number in [1, 13, 16, 18, 22, 25, 26, 27, 38, 39, 49] {
             assert_eq!(told(&tables, number, 1, None), None);
         }
     }

@@ -4,7 +4,7 @@ use crate::run::{board, boards, run, text};
 use std::fs;
 
 /// Accepted boards, with the number of processors and the hash line.
-const ACCEPTED: [(&str, usize, &str); 9] = [
+pub const ACCEPTED: [(&str, usize, &str); 10] = [
     (
         "example1",
         16,
@@ -34,10 +34,15 @@ const ACCEPTED: [(&str, usize, &str); 9] = [
         4,
         "hash: mask 0x101, shifts 0 7 14 30, bits 2",
     ),
+    (
+        "wide-hash",
+        3,
+        "hash: mask 0x1181, shifts 0 0 3 19, bits 13",
+    ),
 ];
 
 /// Refused boards, with number, check name and path.
-const REFUSED: [(&str, u32, &str, &str); 25] = [
+pub const REFUSED: [(&str, u32, &str, &str); 25] = [
     (
         "example3",
         24,

@@ -13,5 +13,6 @@ mod objects;
 mod operands;
 mod reports;
 mod run;
+mod slots;
 mod streams;
 mod usage;

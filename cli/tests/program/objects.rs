@@ -142,7 +142,7 @@ fn quiet() {
 #[test]
 fn no_objects() {
     let file = board("refused-15-no-map");
-    for format in ["-p", "-t"] {
+    for format in ["-p", "-t", "-s"] {
         assert_eq!(text(&run(&[format, &file]).stdout), "");
     }
     let missing = run(&["--json", "no-such-file.dtb"]);

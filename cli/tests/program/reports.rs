@@ -1,4 +1,5 @@
-//! Damaged boards: whatever the library refuses is told in one line, and the property is the one at the second place.
+//! Damaged boards: whatever the library refuses is told in one line, and the property is the one at the second place. With a
+//! table of slots it refuses the same boards in the same way, and others with 38 alone.
 
 use crate::builder::{patched, small};
 use crate::run::compiled;
@@ -6,12 +7,13 @@ use sunderwath::board::{self, Refusal};
 use sunderwath::details::Told;
 use sunderwath::flat;
 use sunderwath::report::Report;
+use sunderwath::slots;
 use sunderwath::tables::Tables;
 
 /// The numbers that have a second place.
 const SIX: [u32; 6] = [11, 12, 17, 24, 36, 37];
 /// The other numbers whose messages say what stands there.
-const DETAILED: [u32; 12] = [2, 3, 5, 7, 9, 10, 13, 15, 16, 21, 25, 26];
+const DETAILED: [u32; 13] = [2, 3, 5, 7, 9, 10, 13, 15, 16, 21, 25, 26, 38];
 
 /// The name that the report has is that of the record, or of no property of the node.
 fn check_property(tables: &Tables, refusal: Refusal, report: &Report) {
@@ -77,10 +79,14 @@ fn read(blob: Vec<u8>, told: &mut [u32; 50]) {
         return;
     };
     for width in [32, 64] {
-        if let Err(refusal) = board::read(width, &reading.tables) {
-            check(&reading.tables, width, refusal);
-            told[refusal.number as usize] += 1;
-        }
+        let plain = board::read(width, &reading.tables).err();
+        let Err(refusal) = slots::read(width, &reading.tables) else {
+            assert_eq!(plain, None);
+            continue;
+        };
+        check(&reading.tables, width, refusal);
+        told[refusal.number as usize] += 1;
+        assert_eq!(plain, (refusal.number != 38).then_some(refusal));
     }
 }
 
@@ -106,7 +112,7 @@ fn every_word_and_byte_changed() {
             }
         }
     }
-    let wanted = SIX.iter().chain(&[7, 8, 13, 15, 19, 21, 25]);
+    let wanted = SIX.iter().chain(&[7, 8, 13, 15, 19, 21, 25, 38]);
     let missing: Vec<_> = wanted.filter(|&&n| told[n as usize] == 0).collect();
     assert!(missing.is_empty(), "{missing:?} of {told:?}");
 }

@@ -4,8 +4,9 @@ use crate::run::{run, text};
 
 #[test]
 fn usage_and_files() {
-    let wrong: [&[&str]; 6] = [
+    let wrong: [&[&str]; 7] = [
         &[],
+        &["--slots"],
         &["a.dtb", "b.dtb"],
         &["--width", "5", "a.dtb"],
         &["--nonsense", "a.dtb"],

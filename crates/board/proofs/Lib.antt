@@ -1,4 +1,5 @@
--- Laws about the parts of the reading call.
+-- Laws about the parts of the reading calls.
 pub mod FrontLaws
 pub mod ReadLaws
+pub mod CallLaws
 pub mod SurveyLaws

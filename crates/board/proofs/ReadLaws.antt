@@ -6,26 +6,27 @@ use Prim.Native.Nat.{ℕ, _*_, _≤_, _<_}
 use native.Mathlib.Omega.{arith}
 use lib.Dec.{eqb, ltb}
 use lib.ListN.{length}
-use borrow.Author.Tests.{eq-eqb, ne-eqb, lt-ltb, le-ltb}
+use borrow.Author.Tests.{eq-eqb, ne-eqb, eqb-true, eqb-false}
 use Rattle.laws.specs.declared.Fault.{Fault}
 use Rattle.laws.specs.facts.Limits.{noProperty}
-use Rattle.laws.specs.answers.Fault.{plain, told}
+use Rattle.laws.specs.answers.Fault.{told, orElse}
 use Rattle.laws.proofs.FaultLaws.{or-first, or-second}
+use Rattle.laws.proofs.OrElseLaws.{or-assoc, or-clear}
 use Rattle.layout.specs.facts.Row.{rowSize}
 use Rattle.affinity.specs.declared.Hash.{Hash}
 use Rattle.affinity.specs.answers.Hash.{hashOf}
 use Rattle.tables.specs.facts.Board.{Board, WordSized}
-use Rattle.cpus.specs.answers.Check.{cpuCount, mpidrList}
+use Rattle.cpus.specs.answers.Check.{cpuCount, cpuList, mpidrList}
 use Rattle.cpumap.specs.answers.Find.{mapOf, mapFault, mapScan}
-use Rattle.leaves.specs.answers.Scan.{leavesOf}
-use Rattle.rows.specs.answers.Write.{written, sourceOf}
+use Rattle.leaves.specs.answers.Scan.{leavesOf, namedOf}
+use Rattle.rows.specs.answers.Write.{source, written, sourceOf}
 use Rattle.demands.specs.declared.BoardAnswer.{BoardAnswer}
 use Rattle.board.specs.declared.Surveyed.{Surveyed}
+use Rattle.board.specs.declared.Asked.{Asked}
 use Rattle.demands.specs.answers.Survey.{surveyFault}
 use Rattle.board.specs.steps.Survey.{stopped, surveyOf}
-use Rattle.demands.specs.answers.Answer.{boardFault, refusedWith, answerOf, rowsAfter}
-use Rattle.demands.specs.facts.Reading.{Demands}
-use Rattle.demands.proofs.Claim.{demands}
+use Rattle.board.specs.steps.Read.{tableFault, roomsFault, readFault}
+use Rattle.demands.specs.answers.Answer.{roomFault, boardFault, refusedWith, answerBy, rowsBy}
 
 -- the map's record
 pub map-root : (nodes pool : List ℕ) → mapFault nodes pool .number ≡ 0 → mapScan nodes pool .map ≡ mapOf nodes pool
@@ -34,7 +35,7 @@ map-root nodes pool z = rw (eq-eqb (mapFault nodes pool .number) 0 z)
 
 -- the survey
 module _ (b : Board) where
-  pub survey-fault : surveyOf b .fault ≡ surveyFault b
+  survey-fault : surveyOf b .fault ≡ surveyFault b
   unfolding surveyOf
   survey-fault = go (eqb (surveyFault b .number) 0)
     where
@@ -45,56 +46,80 @@ module _ (b : Board) where
       go true = refl
       go false = refl
 
-  pub survey-counts : surveyFault b .number ≡ 0 → (surveyOf b .cpus ≡ cpuCount b) × (surveyOf b .leaves ≡ length (leavesOf b))
+  survey-counts : surveyFault b .number ≡ 0 → (surveyOf b .cpus ≡ cpuCount b) × (surveyOf b .leaves ≡ length (leavesOf b))
   unfolding surveyOf
   survey-counts z = rw (eq-eqb (surveyFault b .number) 0 z) (refl, refl)
 
-module _ {b : Board} (sized : WordSized b) (before : List ℕ) where
-  -- what the contract asks of an answer and the buffer after the call
-  abbrev pub Met : BoardAnswer → List ℕ → Type 0
-  Met r after = (r ≡ answerOf b (length before)) × ((after ≡ rowsAfter b before) × Demands b before r after)
+  survey-stopped : (surveyFault b .number ≡ 0 → ⊥) → surveyOf b .cpus ≡ 0
+  unfolding surveyOf
+  survey-stopped ne = rw (ne-eqb (surveyFault b .number) 0 ne)
 
-  met : {r : BoardAnswer} {after : List ℕ} → r ≡ answerOf b (length before) → after ≡ rowsAfter b before → Met r after
-  met e g = (e, (g, rw (e, g) (demands sized before)))
+module _ (b : Board) {s : Surveyed} (found : s ≡ surveyOf b) where
+  fault-is : s .fault ≡ surveyFault b
+  fault-is = ap (λ (r : Surveyed). r .fault) found ∙ survey-fault b
 
-  -- a fault is told
-  refuses : {r : BoardAnswer} {f : Fault} → boardFault b (length before) ≡ f → (f .number ≡ 0 → ⊥) → r ≡ refusedWith f → Met r before
-  unfolding answerOf rowsAfter
-  refuses {r} {f} e ne is = met (rw (e, ne-eqb (f .number) 0 ne) is) (rw (e, ne-eqb (f .number) 0 ne))
+  -- a survey that tells nothing counts the cpu records and the leaves, and one that stops counts nothing
+  pub counts : surveyFault b .number ≡ 0 → (s .cpus ≡ cpuCount b) × (s .leaves ≡ length (leavesOf b))
+  counts none = (ap (λ (r : Surveyed). r .cpus) found ∙ survey-counts b none .0, ap (λ (r : Surveyed). r .leaves) found ∙ survey-counts b none .1)
 
-  -- by the survey
-  module _ {s : Surveyed} (found : s ≡ surveyOf b) where
-    fault-is : s .fault ≡ surveyFault b
-    fault-is = ap (λ (r : Surveyed). r .fault) found ∙ survey-fault b
+  pub cpus-fit : {most : ℕ} → (surveyFault b .number ≡ 0 → s .cpus ≤ most) → s .cpus ≤ most
+  cpus-fit {most} listed = go (eqb (surveyFault b .number) 0) refl
+    where
+      go : (t : Bool) → eqb (surveyFault b .number) 0 ≡ t → s .cpus ≤ most
+      go true e = listed (eqb-true (surveyFault b .number) 0 e)
+      go false e =
+          let stop = survey-stopped b (eqb-false (surveyFault b .number) 0 e) in
+          omega (arith, ap (λ (r : Surveyed). r .cpus) found ∙ stop)
 
-    pub refuses-survey : {r : BoardAnswer} → (s .fault .number ≡ 0 → ⊥) → r ≡ refusedWith (s .fault) → Met r before
-    unfolding boardFault
-    refuses-survey {r} ne is =
-        let some : surveyFault b .number ≡ 0 → ⊥ = rw fault-is at ne in
-        refuses (or-first (surveyFault b) _ some) some (is ∙ ap refusedWith fault-is)
+  -- what the code tells is what is told of the board; the bits matter only where the survey tells nothing
+  pub rooms-is :
+      {bits : ℕ} (room : ℕ) (asked : Asked) →
+      (surveyFault b .number ≡ 0 → bits ≡ hashOf (mpidrList b) .bits) →
+      roomsFault s room asked bits ≡ readFault b room asked
+  unfolding boardFault
+  rooms-is {bits} room asked same = rw (fault-is, or-assoc) (go (eqb (surveyFault b .number) 0) refl)
+    where
+      last : Fault
+      last = orElse (told (roomFault room (cpuCount b)) 0) (told (tableFault asked (hashOf (mpidrList b) .bits)) 0)
 
-    -- a survey that tells nothing
-    module _ (z : s .fault .number ≡ 0) where
-      pub none : surveyFault b .number ≡ 0
-      none = ap (λ (f : Fault). f .number) (sym fault-is) ∙ z
+      go :
+          (t : Bool) →
+          eqb (surveyFault b .number) 0 ≡ t →
+          orElse (surveyFault b) (orElse (told (roomFault room (s .cpus)) 0) (told (tableFault asked bits) 0)) ≡ orElse (surveyFault b) last
+      go true e =
+          let z = eqb-true (surveyFault b .number) 0 e in
+          rw (counts z .0, same z)
+      go false e =
+          let ne = eqb-false (surveyFault b .number) 0 e in
+          or-first (surveyFault b) _ ne ∙ sym (or-first (surveyFault b) last ne)
 
-      pub counts : (s .cpus ≡ cpuCount b) × (s .leaves ≡ length (leavesOf b))
-      counts = (ap (λ (r : Surveyed). r .cpus) found ∙ survey-counts b none .0, ap (λ (r : Surveyed). r .leaves) found ∙ survey-counts b none .1)
+-- what `read` promises
+module _ (b : Board) (before : List ℕ) (asked : Asked) where
+  abbrev wanted : Fault
+  wanted = readFault b (length before) asked
 
-      at-room : (t : Bool) → ltb (length before) (rowSize * cpuCount b) ≡ t → boardFault b (length before) ≡ told (cond t 27 0) 0
-      unfolding boardFault
-      at-room t e = or-second (surveyFault b) _ none ∙ rw e
+  abbrev Met : BoardAnswer → List ℕ → Type 0
+  Met r after = (r ≡ answerBy wanted (cpuCount b) (mpidrList b)) × (after ≡ rowsBy wanted (sourceOf b) before)
 
-      -- rule 27
-      pub refuses-room : {r : BoardAnswer} → length before < rowSize * cpuCount b → r ≡ refusedWith (plain 27 0) → Met r before
-      refuses-room lt is = refuses (at-room true (lt-ltb _ _ lt)) (λ w. omega arith) is
+  pub survey-clear : {f : Fault} → f ≡ wanted → f .number ≡ 0 → surveyFault b .number ≡ 0
+  unfolding boardFault
+  survey-clear e z =
+      or-clear (surveyFault b) _ (or-clear (boardFault b (length before)) _ (ap (λ (g : Fault). g .number) (sym e) ∙ z) .0) .0
 
-      pub accepts :
-          {count : ℕ} {hash : Hash} {after : List ℕ} →
-          rowSize * cpuCount b ≤ length before →
-          count ≡ cpuCount b →
-          hash ≡ hashOf (mpidrList b) →
-          after ≡ written (sourceOf b) before →
-          Met (record { number = 0; place = 0; second = noProperty; count = count; hash = hash }) after
-      unfolding answerOf rowsAfter
-      accepts le e h wrote = let clear = at-room false (le-ltb _ _ le) in met (rw (clear, e, h)) (rw clear wrote)
+  pub refuses : {r : BoardAnswer} {f : Fault} → f ≡ wanted → (f .number ≡ 0 → ⊥) → r ≡ refusedWith f → Met r before
+  refuses {r} {f} e ne is = rw (← e, ne-eqb (f .number) 0 ne) (is, refl)
+
+  pub accepts :
+      {f : Fault} {count : ℕ} {hash : Hash} {cpus mpidrs leaves named after : List ℕ} →
+      f ≡ wanted →
+      f .number ≡ 0 →
+      count ≡ cpuCount b →
+      hash ≡ hashOf (mpidrList b) →
+      cpus ≡ cpuList b →
+      mpidrs ≡ mpidrList b →
+      leaves ≡ leavesOf b →
+      named ≡ namedOf b →
+      after ≡ written (source (b .nodes) (b .pool) cpus mpidrs leaves named hash) before →
+      Met (record { number = 0; place = 0; second = noProperty; count = count; hash = hash }) after
+  accepts {f} e z counted hashed is-cpus is-mpidrs is-leaves is-named wrote =
+      rw (← e, eq-eqb (f .number) 0 z, counted, hashed) (refl, rw (hashed, is-cpus, is-mpidrs, is-leaves, is-named) at wrote)

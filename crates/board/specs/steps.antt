@@ -1,2 +1,3 @@
 -- What contracts inside the crate and its proofs use.
 pub mod Survey
+pub mod Read

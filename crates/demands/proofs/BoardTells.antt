@@ -15,7 +15,7 @@ use Rattle.laws.proofs.RuleStageLaws.{tells-as, split-tells}
 use Rattle.laws.proofs.VerdictLaws.{Verdict, once-tells}
 use Rattle.layout.specs.facts.Row.{rowSize}
 use Rattle.tables.specs.facts.Board.{Board, WordSized}
-use Rattle.wellformed.specs.facts.Order.{stages, stage}
+use Rattle.wellformed.specs.facts.Order.{stage}
 use Rattle.wellformed.specs.facts.Rules.{WellFormed}
 use Rattle.wellformed.proofs.RuleLaws.{table-tells, tables-kept}
 use Rattle.cpus.specs.facts.Node.{Cpu}
@@ -45,10 +45,10 @@ module _ {b : Board} (sized : WordSized b) (room : ℕ) where
     room-broken : {m q : ℕ} → RoomRule b room m q → (m ≡ 27) × (q ≡ 0) × (rowSize * cpuCount b ≤ room → ⊥)
     room-broken (RoomRule.noRoom cpus l lt) = (refl, refl, λ le. omega (arith, size cpus l))
 
-    room-tells : Tells stage (RoomRule b room) (stage 27) (length stages) (told (roomFault room (cpuCount b)) 0)
+    room-tells : Tells stage (RoomRule b room) (stage 27) (stage 38) (told (roomFault room (cpuCount b)) 0)
     room-tells = once-tells stage (RoomRule b room) 27 (omega arith) (λ m q r _. room-broken r) room-told
 
-  pub board-tells : Tells stage (Breaks b room) 0 (length stages) (boardFault b room)
+  pub board-tells : Tells stage (Breaks b room) 0 (stage 38) (boardFault b room)
   board-tells =
       rw (board-stages b room)
       (tells-as (λ n p. from-layers) (λ n p. to-layers)

@@ -7,11 +7,11 @@ use Prim.Native.Nat.{ℕ, _*_, _≤_, _<_}
 use native.Mathlib.Omega.{arith}
 use lib.ListN.{length, take, drop}
 use lib.Dec.{eqb}
-use borrow.Author.Tests.{eq-eqb, ne-eqb, eqb-true, eqb-false}
+use borrow.Author.Tests.{eq-eqb, eqb-true, eqb-false}
 use Rattle.laws.specs.facts.Limits.{noProperty}
 use Rattle.laws.proofs.SearchLaws.{lt-or-le}
-use Rattle.laws.proofs.RuleStageLaws.{tells-first, tells-none}
-use Rattle.layout.specs.facts.Row.{rowSize}
+use Rattle.laws.proofs.RuleStageLaws.{tells-none}
+use Rattle.layout.specs.facts.Row.{rowSize, slotAt}
 use Rattle.affinity.specs.answers.Hash.{hashOf}
 use Rattle.tables.specs.facts.Board.{Board, WordSized, nodeCount}
 use Rattle.wellformed.specs.facts.Rules.{WellFormed}
@@ -27,7 +27,7 @@ use Rattle.cpumap.specs.answers.Find.{mapOf}
 use Rattle.cpumap.proofs.MapMeans.{map-of, no-map}
 use Rattle.rows.specs.facts.Fits.{Fits}
 use Rattle.rows.specs.answers.Write.{rowsBelow, written, sourceOf}
-use Rattle.rows.proofs.SourceMeans.{leafCount, LeafFacts, leaf-facts, leaf-count, mpidrs-of, hash-of}
+use Rattle.rows.proofs.SourceMeans.{leafCount, LeafFacts, leaf-facts, leaf-count, board-hash}
 use Rattle.rows.proofs.FitMeans.{rows-fit}
 use Rattle.rows.proofs.FitUnique.{fits-unique}
 use Rattle.rows.proofs.SlotMeans.{slots-distinct-rows, slots-bounded}
@@ -35,8 +35,9 @@ use Rattle.rows.proofs.WrittenLaws.{written-front, written-rest, written-length
 use Rattle.demands.specs.declared.BoardAnswer.{BoardAnswer}
 use Rattle.demands.specs.facts.Rules.{Breaks, Told, MapBroken, Room}
 use Rattle.demands.specs.answers.Answer.{boardFault, answerOf, rowsAfter}
-use Rattle.demands.specs.facts.Reading.{slotAt, Refused, Accepted, Unchanged, Demands}
+use Rattle.demands.specs.facts.Reading.{Refused, Accepted, Unchanged, Demands}
 use Rattle.demands.proofs.StageLaws.{breaks-staged}
+use Rattle.demands.proofs.AnswerLaws.{told-first, by-number, by-refusal}
 use Rattle.demands.proofs.BoardTells.{board-tells}
 use Rattle.demands.proofs.SecondBoard.{second-is}
 use Rattle.demands.proofs.SplitLaws.{from-unsplit, to-unsplit}
@@ -111,7 +112,7 @@ module _
           rest = rest;
           size = written-length (sourceOf b) before has-room;
           count = (cpuList b, cpu-listing well, cpu-count b);
-          hash = (mpidrList b, mpidrs-of sized well sound, hash-of sized well sound);
+          hash = board-hash sized well sound;
           distinct = distinct;
           bounded = λ k lt. rw (slot-at k lt) (slots-bounded sized well sound leaves k (rw same lt));
         }
@@ -126,24 +127,15 @@ module _ {b : Board} (sized : WordSized b) (before : List ℕ) where
   abbrev buffer : List ℕ
   buffer = rowsAfter b before
 
-  first-told : (number ≡ 0 → ⊥) → Told b (length before) number (boardFault b (length before) .place)
-  first-told ne =
-      let tells = board-tells sized (length before) in
-      record { first = tells-first (λ n p. breaks-staged) tells ne; staged = tells .told ne .broken .2 }
+  first-told : (number ≡ 0 → ⊥) → Told (Breaks b (length before)) number (boardFault b (length before) .place)
+  first-told = told-first (omega arith) (λ n p. breaks-staged) (board-tells sized (length before))
 
-  refusal : (number ≡ 0 → ⊥) → Refused b before answer buffer
+  refusal : (number ≡ 0 → ⊥) → Refused b (Breaks b (length before)) before answer buffer
   unfolding answerOf rowsAfter
   refusal ne =
-      rw (ne-eqb number 0 ne)
-      (record {
-        first = first-told ne;
-        second = second-is b (length before);
-        count = refl;
-        hash = refl;
-        buffer = refl;
-      })
+      by-refusal (boardFault b (length before)) (cpuCount b) (mpidrList b) (sourceOf b) before ne (first-told ne) (second-is b (length before))
 
-  none : number ≡ 0 → (n p : ℕ) → Breaks b (length before) n p → ⊥
+  pub none : number ≡ 0 → (n p : ℕ) → Breaks b (length before) n p → ⊥
   none = tells-none (λ n p. breaks-staged) (board-tells sized (length before))
 
   acceptance : number ≡ 0 → Accepted b before answer buffer
@@ -153,11 +145,7 @@ module _ {b : Board} (sized : WordSized b) (before : List ℕ) where
   -- the answer's number is that of the fault
   answer-number : answer .number ≡ number
   unfolding answerOf
-  answer-number = go (eqb number 0) refl
-    where
-      go : (t : Bool) → eqb number 0 ≡ t → answer .number ≡ number
-      go true e = rw e (sym (eqb-true number 0 e))
-      go false e = rw e
+  answer-number = by-number (boardFault b (length before)) (cpuCount b) (mpidrList b)
 
   -- a map rule is broken where some rule is, none of them being one of the other layers
   map-broken : WellFormed b → SoundCpus b → Room b (length before) → (n p : ℕ) → Breaks b (length before) n p → MapBroken b

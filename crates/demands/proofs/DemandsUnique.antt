@@ -10,11 +10,10 @@ use Rattle.laws.proofs.FirstLaws.{first-unique}
 use Rattle.laws.proofs.ListingLaws.{listing-unique}
 use Rattle.layout.specs.facts.Row.{rowSize}
 use Rattle.affinity.specs.declared.Hash.{Hash}
-use Rattle.affinity.proofs.HashMeans.{hash-unique}
 use Rattle.tables.specs.facts.Board.{Board}
 use Rattle.wellformed.specs.facts.Order.{stage}
 use Rattle.wellformed.specs.facts.Rules.{WellFormed}
-use Rattle.rows.proofs.FitUnique.{mpidrs-unique}
+use Rattle.rows.proofs.FitUnique.{board-hash-unique}
 use Rattle.demands.specs.declared.BoardAnswer.{BoardAnswer}
 use Rattle.demands.specs.facts.Rules.{Breaks}
 use Rattle.demands.specs.facts.Reading.{Refused, Accepted, Demands}
@@ -34,9 +33,9 @@ module _ (b : Board) (before : List ℕ) (x y : BoardAnswer) (after other : List
       ∙ ap₂ (λ (v : ℕ) (w : Hash). answer (y .number) (y .place) (y .second) v w) c h
 
   -- both refuse: the first broken rule is one, and all else is 0 or as before
-  both-refuse : Refused b before x after → Refused b before y other → Same
-  both-refuse h g =
-      let told = first-unique stage (Breaks b (length before)) _ _ _ _ (h .first .first) (g .first .first) in
+  pub both-refuse : (Rule : ℕ → ℕ → Type 0) → Refused b Rule before x after → Refused b Rule before y other → Same
+  both-refuse Rule h g =
+      let told = first-unique stage Rule _ _ _ _ (h .first .first) (g .first .first) in
       let second = g .second (x .second) .0 (rw (← told .0, ← told .1) (h .second (x .second) .1 refl)) in
       (parts (told .0) (told .1) second (h .count ∙ sym (g .count)) (h .hash ∙ sym (g .hash)), h .buffer ∙ sym (g .buffer))
 
@@ -45,7 +44,7 @@ module _ (b : Board) (before : List ℕ) (x y : BoardAnswer) (after other : List
   both-accept well zx zy h g =
       let cpus = listing-unique (h .count .0) (g .count .0) (h .count .1) (g .count .1) in
       let count : x .count ≡ y .count = h .count .2 ∙ ap length cpus ∙ sym (g .count .2) in
-      let hash : x .hash ≡ y .hash = hash-unique (rw (mpidrs-unique well (h .hash .1) (g .hash .1)) at (h .hash .2)) (g .hash .2) in
+      let hash : x .hash ≡ y .hash = board-hash-unique well (h .hash) (g .hash) in
       let rows : take (rowSize * x .count) after ≡ take (rowSize * y .count) other = g .only (take (rowSize * x .count) after) (h .fits) in
       let rest : drop (rowSize * x .count) after ≡ drop (rowSize * y .count) other =
       h .rest ∙ ap (λ (n : ℕ). drop (rowSize * n) before) count ∙ sym (g .rest) in (
@@ -65,6 +64,12 @@ apart :
     A
 apart h g z ne = absurd (h .sound z _ _ (g .refused ne .first .first .broken))
 
+-- no rule is broken of an accepted board, so the hypotheses of demand 3 hold
+pub accepted : {b : Board} {before after : List ℕ} {z : BoardAnswer} → Demands b before z after → z .number ≡ 0 → Accepted b before z after
+accepted d z =
+    let none = d .sound z in
+    d .reading (λ n p r. none n p (Breaks.tables r)) (λ n p r. none n p (Breaks.cpus r)) (none 27 0) .accepted z
+
 pub demands-unique :
     {b : Board} (before : List ℕ) {x y : BoardAnswer} {after other : List ℕ} →
     Demands b before x after →
@@ -72,11 +77,6 @@ pub demands-unique :
     (x ≡ y) × (after ≡ other)
 demands-unique {b} before {x} {y} {after} {other} h g = go (eqb (x .number) 0) refl (eqb (y .number) 0) refl
   where
-    accepted : {z : BoardAnswer} {left : List ℕ} → Demands b before z left → z .number ≡ 0 → Accepted b before z left
-    accepted d z =
-        let none = d .sound z in
-        d .reading (λ n p r. none n p (Breaks.tables r)) (λ n p r. none n p (Breaks.cpus r)) (none 27 0) .accepted z
-
     go : (s : Bool) → eqb (x .number) 0 ≡ s → (t : Bool) → eqb (y .number) 0 ≡ t → (x ≡ y) × (after ≡ other)
     go true e true f =
         let zx = eqb-true (x .number) 0 e in
@@ -84,4 +84,4 @@ demands-unique {b} before {x} {y} {after} {other} h g = go (eqb (x .number) 0) r
         both-accept b before x y after other (λ n p r. h .sound zx n p (Breaks.tables r)) zx zy (accepted h zx) (accepted g zy)
     go true e false f = apart h g (eqb-true (x .number) 0 e) (eqb-false (y .number) 0 f)
     go false e true f = apart g h (eqb-true (y .number) 0 f) (eqb-false (x .number) 0 e)
-    go false e false f = both-refuse b before x y after other (h .refused (eqb-false (x .number) 0 e)) (g .refused (eqb-false (y .number) 0 f))
+    go false e false f = both-refuse b before x y after other (Breaks b (length before)) (h .refused (eqb-false (x .number) 0 e)) (g .refused (eqb-false (y .number) 0 f))

@@ -3,7 +3,12 @@ pub mod StageLaws
 pub mod LayerLaws
 pub mod BoardTells
 pub mod SecondBoard
+pub mod SecondSlots
 pub mod SplitLaws
+pub mod AnswerLaws
 pub mod Claim
 pub mod BoundLaws
 pub mod DemandsUnique
+pub mod SlotTells
+pub mod SlotClaim
+pub mod SlotUnique

@@ -8,7 +8,7 @@ use Rattle.laws.specs.facts.Listing.{Listing}
 use Rattle.laws.proofs.RuleStageLaws.{Split}
 use Rattle.layout.specs.facts.Row.{rowSize}
 use Rattle.tables.specs.facts.Board.{Board}
-use Rattle.wellformed.specs.facts.Order.{stages, stage}
+use Rattle.wellformed.specs.facts.Order.{stage}
 use Rattle.wellformed.specs.facts.Rules.{TableRule}
 use Rattle.wellformed.proofs.RuleLaws.{rule-staged}
 use Rattle.cpus.specs.facts.Node.{Cpu}
@@ -61,8 +61,8 @@ module _ {b : Board} {room : ℕ} where
       (Split.late (Split.late (Split.late (Split.late (RoomRule.noRoom cpus l lt) (omega arith)) (omega arith)) (omega arith)) (omega arith))
       (omega arith)
 
-  -- the number of every broken rule stands in a stage
-  pub breaks-staged : {n p : ℕ} → Breaks b room n p → stage n < length stages
+  -- every rule is of a stage before that of 38
+  pub breaks-staged : {n p : ℕ} → Breaks b room n p → stage n < stage 38
   breaks-staged (Breaks.tables r) = omega (arith, rule-staged b r)
   breaks-staged (Breaks.cpus r) = omega (arith, cpus.cpu-staged (cpus.staged r) .1)
   breaks-staged (Breaks.map r) = omega (arith, map-staged r .1)

@@ -1,3 +1,4 @@
 -- What public contracts equate their results with.
 pub mod Answer
+pub mod Slots
 pub mod Survey

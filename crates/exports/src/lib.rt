@@ -4,3 +4,4 @@ mod check;
 mod image;
 mod list;
 mod read;
+mod slots;

@@ -24,5 +24,8 @@ pub const NO_PROPERTY: usize = 0xFFFFFFFF;
 // Cpu records of a board, and MPIDRs of a list.
 pub const MAX_CPUS: usize = 256;
 
+// Bits of the hash of a board whose slots have a table.
+pub const MAX_TABLE_BITS: u32 = 12;
+
 // Bytes of a flattened devicetree.
 pub const MAX_BLOB: usize = 65536;

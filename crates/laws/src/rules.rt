@@ -84,6 +84,12 @@ pub const CPU_UNMAPPED: u32 = 26;
 // The row buffer is too short.
 pub const ROW_SPACE: u32 = 27;
 
+// The hash has more bits than a table of slots may have.
+pub const SLOT_TABLE_BITS: u32 = 38;
+
+// A table of slots has fewer entries than there are slots, two to the hash's bits.
+pub const SLOT_TABLE_SPACE: u32 = 39;
+
 // A list of MPIDRs is empty or too long.
 pub const LIST_LENGTH: u32 = 28;
 

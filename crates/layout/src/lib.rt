@@ -5,6 +5,9 @@ ghost use Rattle.layout.specs.answers.Words.{withRow};
 // The words of a row.
 pub const ROW_WORDS: usize = 12;
 
+// The word of a row that holds its slot.
+pub const SLOT_WORD: usize = 11;
+
 // What a row holds where the map states nothing.
 pub const GAP: u32 = 0xFFFFFFFF;
 

@@ -25,7 +25,7 @@ use Rattle.rows.specs.answers.Write.{rowsBelow, sourceOf}
 use Rattle.rows.specs.facts.Fits.{RowFits, Fits}
 use Rattle.rows.proofs.WordMeans.{socket-word, cluster-word, core-word, thread-word}
 use Rattle.rows.proofs.RowLaws.{rows-length, row-at}
-use Rattle.rows.proofs.SourceMeans.{leafCount, leafAt, cpuIn, leafRow, LeafFacts, mpidrs-of, hash-of, row-number}
+use Rattle.rows.proofs.SourceMeans.{leafCount, leafAt, cpuIn, leafRow, LeafFacts, board-hash, row-number}
 
 module _
     {b : Board}
@@ -55,10 +55,8 @@ module _
           thread = thread-word well sound l;
           slot =
               record {
-                list = mpidrList b;
-                mpidrs = mpidrs-of sized well sound;
                 hash = hashOf (mpidrList b);
-                is-hash = hash-of sized well sound;
+                is-hash = board-hash sized well sound;
                 slot = ap (slotIn (mpidrList b)) whole;
               };
         }

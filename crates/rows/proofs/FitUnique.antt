@@ -25,7 +25,8 @@ use Rattle.leaves.specs.facts.Leaf.{Leaf}
 use Rattle.cpumap.proofs.NameFacts.{kinds-apart}
 use Rattle.leaves.proofs.LeafMeans.{names-unique}
 use Rattle.leaves.proofs.RuleCases.{leaf-in-map}
-use Rattle.rows.specs.facts.Fits.{Mpidrs, SocketWord, CoreWord, ThreadWord, SlotWord, RowFits, Fits}
+use Rattle.rows.specs.facts.BoardHash.{Mpidrs, BoardHash}
+use Rattle.rows.specs.facts.Fits.{SocketWord, CoreWord, ThreadWord, SlotWord, RowFits, Fits}
 use Rattle.rows.proofs.ShapeLaws.{socket-unique}
 use Rattle.rows.proofs.WordMeans.{cluster-word-only}
 
@@ -47,7 +48,7 @@ thread-word-unique (ThreadWord.notThread none) (ThreadWord.notThread other) = re
 
 module _ {b : Board} (well : WellFormed b) where
   -- the slot
-  pub mpidrs-unique : {l k : List ℕ} → Mpidrs b l → Mpidrs b k → l ≡ k
+  mpidrs-unique : {l k : List ℕ} → Mpidrs b l → Mpidrs b k → l ≡ k
   mpidrs-unique {l} {k} h g = ext-getD 0 l k (h .size ∙ ap length cpus-same ∙ sym (g .size)) each
     where
       cpus-same : h .cpus ≡ g .cpus
@@ -60,10 +61,11 @@ module _ {b : Board} (well : WellFormed b) where
           let e = reg-unique well (rw cpus-same at (p .2)) (q .2) in
           p .3 ∙ rw (e .0, e .1) (sym (q .3))
 
-  pub slot-word-unique : {m x y : ℕ} → SlotWord b m x → SlotWord b m y → x ≡ y
-  slot-word-unique {m} h g =
-      let same = mpidrs-unique (h .mpidrs) (g .mpidrs) in
-      h .slot ∙ ap (λ (x : Hash). slotOf x m) (hash-unique (rw same at (h .is-hash)) (g .is-hash)) ∙ sym (g .slot)
+  pub board-hash-unique : {x y : Hash} → BoardHash b x → BoardHash b y → x ≡ y
+  board-hash-unique (BoardHash.ofMpidrs l h is) (BoardHash.ofMpidrs k g other) = hash-unique (rw (mpidrs-unique h g) at is) other
+
+  slot-word-unique : {m x y : ℕ} → SlotWord b m x → SlotWord b m y → x ≡ y
+  slot-word-unique {m} h g = h .slot ∙ ap (λ (x : Hash). slotOf x m) (board-hash-unique (h .is-hash) (g .is-hash)) ∙ sym (g .slot)
 
 module _
     {b : Board}

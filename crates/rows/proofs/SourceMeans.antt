@@ -30,7 +30,7 @@ use Rattle.leaves.proofs.PhandleMeans.{cpuAt}
 use Rattle.leaves.proofs.TreeGives.{leaf-listing, leaf-names, leaf-cpu, leaves-apart, same-count}
 use Rattle.rows.specs.answers.Leaf.{rowOf}
 use Rattle.rows.specs.answers.Write.{rowNumber, sourceOf}
-use Rattle.rows.specs.facts.Fits.{Mpidrs}
+use Rattle.rows.specs.facts.BoardHash.{Mpidrs, BoardHash}
 
 -- the number of rows; the leaf and the cpu record of row k
 abbrev pub leafCount : Board → ℕ
@@ -85,7 +85,7 @@ module _
     leaf-count = leaf-facts .count ∙ sym (cpu-count b)
 
 module _ {b : Board} (sized : WordSized b) (well : WellFormed b) (sound : SoundCpus b) where
-  pub mpidrs-of : Mpidrs b (mpidrList b)
+  mpidrs-of : Mpidrs b (mpidrList b)
   mpidrs-of =
       record {
         cpus = cpuList b;
@@ -104,6 +104,9 @@ module _ {b : Board} (sized : WordSized b) (well : WellFormed b) (sound : SoundC
           let in-cpus = rw (length-map (cpuList b) (mpidrAt b)) at lt in
           let t = cpu-reg sized well sound (cpu-listing well .only i in-cpus) in
           rw (getD-map-lt (mpidrAt b) (cpuList b) i in-cpus, t .3) (reg-affine (t .2))
+
+  pub board-hash : BoardHash b (hashOf (mpidrList b))
+  board-hash = BoardHash.ofMpidrs (mpidrList b) mpidrs-of hash-of
 
   -- row k is that of leaf k and of the cpu record that it names
   pub row-number : LeafFacts b → (k : ℕ) → k < leafCount b → rowNumber (sourceOf b) k ≡ leafRow b (leafAt b k) (cpuIn b (leafAt b k))

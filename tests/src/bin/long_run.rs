@@ -1,14 +1,18 @@
-//! Compares the readers on a million boards and more, or runs one again.
+//! Compares the readers on a million boards and more, or runs one again. Each
+//! board is read with a table from slots to rows too.
 //!
 //! long_run [--boards N] [--seed S]
 //! long_run --replay FILE
 
 use std::process::exit;
 use std::time::Instant;
+use sunderwath_tests::answer::{Answer, SHORT_ANSWER};
 use sunderwath_tests::build::mix::{any_board, large_board};
-use sunderwath_tests::build::text;
+use sunderwath_tests::build::slots::{some_length, table_lengths};
+use sunderwath_tests::build::{text, Board};
 use sunderwath_tests::compare::{compare, library, second_tables};
-use sunderwath_tests::counts::Counts;
+use sunderwath_tests::compare_slots::{compare_slots, Lent};
+use sunderwath_tests::counts::{slot_numbers, Counts};
 use sunderwath_tests::rng::Rng;
 use sunderwath_tests::second;
 
@@ -44,17 +48,41 @@ fn options() -> Option<Options> {
     Some(options)
 }
 
+/// The tables that a file speaks of, or such as suit the bits.
+fn tables(content: &str, bits: u32) -> Vec<Lent> {
+    let suited = |entries| Lent { entries, seed: 10 };
+    match Lent::of_text(content) {
+        Some(lent) => vec![lent],
+        None => table_lengths(bits).into_iter().map(suited).collect(),
+    }
+}
+
 fn replay(file: &str) -> Result<(), String> {
     let content = std::fs::read_to_string(file).map_err(|e| format!("{file}: {e}"))?;
     let board = text::read(&content).map_err(|e| format!("{file}: {e}"))?;
     println!("library       {:?}", library(&board).0);
     println!("second reader {:?}", second::read(&second_tables(&board)).0);
-    compare(&board).map(|answer| println!("the readers agree on {}", answer.number))
+    let answer = compare(&board)?;
+    println!("the readers agree on {}", answer.number);
+    for lent in tables(&content, answer.bits) {
+        let number = compare_slots(&board, lent)?.number;
+        println!("with a table of {}: on {number}", lent.entries);
+    }
+    Ok(())
+}
+
+/// The answers of one board: as it is, and with a table of some length.
+fn both(board: &Board, tables: &mut Rng) -> Result<[Answer; 2], String> {
+    let told = compare(board)?;
+    let entries = some_length(tables, told.bits);
+    let seed = tables.wide();
+    Ok([told, compare_slots(board, Lent { entries, seed })?])
 }
 
 fn run(options: &Options) -> Result<(), String> {
     let mut rng = Rng::new(options.seed);
-    let mut counts = Counts::default();
+    let mut tables = Rng::new(!options.seed);
+    let mut counts = [(); 2].map(|()| Counts::default());
     let start = Instant::now();
     println!("{} boards, seed {:#x}", options.boards, options.seed);
     for at in 0..options.boards {
@@ -63,13 +91,16 @@ fn run(options: &Options) -> Result<(), String> {
         } else {
             any_board(&mut rng)
         };
-        let told = compare(&board).map_err(|report| format!("board {at}:\n{report}"))?;
-        counts.add(&told);
+        let told = both(&board, &mut tables).map_err(|report| format!("board {at}:\n{report}"))?;
+        counts[0].add(&told[0]);
+        counts[1].add(&told[1]);
         if (at + 1) % 250_000 == 0 {
             println!("{} boards after {:?}", at + 1, start.elapsed());
         }
     }
-    println!("{}", counts.lines());
+    println!("{}", counts[0].lines());
+    let with_tables = slot_numbers().filter(|&number| number != SHORT_ANSWER);
+    println!("with tables:\n{}", counts[1].lines_of(with_tables));
     println!("no disagreement on {} boards", options.boards);
     Ok(())
 }

@@ -19,6 +19,7 @@ pub mod overlap;
 pub mod property_faults;
 pub mod shapes;
 pub mod shrink;
+pub mod slots;
 pub mod small;
 pub mod text;
 pub mod worked;

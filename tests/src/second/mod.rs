@@ -12,6 +12,7 @@ mod lookup;
 mod rows;
 mod rules;
 mod second_place;
+mod slots;
 mod tables;
 
 pub use flat::{flat_answer, flat_tables, read_flat, word_at, FlatTables, Reading, Refusal};
@@ -20,6 +21,7 @@ pub use hash::{list_hash, list_slot};
 pub use lookup::{find_property, fixed_lookup, Standing};
 pub use rows::read;
 pub use rules::{stage_of, told};
+pub use slots::{read_slots, ReadSlots, SLOT_NUMBERS};
 pub use tables::{topology_name, Kind, Tables};
 
 use crate::answer::Answer;

@@ -6,29 +6,27 @@ use Prim.Native.Nat.{ℕ, _*_, _^_, _<_}
 use lib.ListN.{take, length, drop}
 use Rattle.laws.specs.facts.Limits.{noProperty}
 use Rattle.laws.specs.facts.Listing.{Listing}
-use Rattle.layout.specs.facts.Row.{rowSize, rowSlot, rowAt}
+use Rattle.layout.specs.facts.Row.{rowSize, slotAt}
 use Rattle.affinity.specs.facts.List.{noHash}
-use Rattle.affinity.specs.facts.Hash.{IsHash}
 use Rattle.tables.specs.facts.Board.{Board}
 use Rattle.tables.specs.facts.Second.{Second}
 use Rattle.wellformed.specs.facts.Rules.{WellFormed}
 use Rattle.cpus.specs.facts.Node.{Cpu}
 use Rattle.cpus.specs.facts.Rules.{CpuRule, CpusNode, SoundCpus}
 use Rattle.cpumap.specs.facts.Map.{Map}
-use Rattle.rows.specs.facts.Fits.{Mpidrs, Fits}
+use Rattle.rows.specs.facts.BoardHash.{BoardHash}
+use Rattle.rows.specs.facts.Fits.{Fits}
 use Rattle.demands.specs.declared.BoardAnswer.{BoardAnswer}
 use Rattle.demands.specs.facts.Rules.{Breaks, BreaksUnsplit, Told, MapBroken, Room}
 
--- the rows that a buffer holds, and the slot word of row k
+-- the rows that a buffer holds
 abbrev pub rowsIn : BoardAnswer → List ℕ → List ℕ
 rowsIn answer buffer = take (rowSize * answer .count) buffer
 
-abbrev pub slotAt : List ℕ → ℕ → ℕ
-slotAt buffer k = rowSlot (rowAt buffer k)
-
--- a refusal: the broken rule that 01's order tells; its second place, which no other is; every other result 0; the buffer as it was
-pub record Refused (b : Board) (before : List ℕ) (answer : BoardAnswer) (after : List ℕ) : Type 0 where
-  pub first : Told b (length before) (answer .number) (answer .place)
+-- a refusal: of a family of rules the broken one that 01's order tells; its second place, which no other is; every other result 0; the
+-- buffer as it was
+pub record Refused (b : Board) (Rule : ℕ → ℕ → Type 0) (before : List ℕ) (answer : BoardAnswer) (after : List ℕ) : Type 0 where
+  pub first : Told Rule (answer .number) (answer .place)
   pub second : (s : ℕ) → Second b (answer .number) (answer .place) s ↔ (s ≡ answer .second)
   pub count : answer .count ≡ 0
   pub hash : answer .hash ≡ noHash
@@ -43,14 +41,14 @@ pub record Accepted (b : Board) (before : List ℕ) (answer : BoardAnswer) (afte
   pub rest : drop (rowSize * answer .count) after ≡ drop (rowSize * answer .count) before
   pub size : length after ≡ length before
   pub count : (cpus : List ℕ) × Listing (Cpu b) cpus × (answer .count ≡ length cpus)
-  pub hash : (list : List ℕ) × Mpidrs b list × IsHash list (answer .hash)
+  pub hash : BoardHash b (answer .hash)
   pub distinct : (j k : ℕ) → j < answer .count → k < answer .count → slotAt after j ≡ slotAt after k → j ≡ k
   pub bounded : (k : ℕ) → k < answer .count → slotAt after k < 2 ^ (answer .hash .bits)
 
 -- demand 3: accepted exactly when the board has a map and no map rule is broken
 pub record Reading (b : Board) (before : List ℕ) (answer : BoardAnswer) (after : List ℕ) : Type 0 where
   pub exactly : (answer .number ≡ 0) ↔ (((m : ℕ) × Map b m) × (MapBroken b → ⊥))
-  pub refused : (answer .number ≡ 0 → ⊥) → Refused b before answer after
+  pub refused : (answer .number ≡ 0 → ⊥) → Refused b (Breaks b (length before)) before answer after
   pub accepted : answer .number ≡ 0 → Accepted b before answer after
 
 -- the split of 01's rule 9 (02, W3): it is broken exactly where 9, 36 or 37 is, and no board changes between accepted and refused
@@ -60,7 +58,7 @@ pub record Unchanged (b : Board) (room : ℕ) (answer : BoardAnswer) : Type 0 wh
 
 pub record Demands (b : Board) (before : List ℕ) (answer : BoardAnswer) (after : List ℕ) : Type 0 where
   -- demand 1, of every input: a refusal tells the first broken rule, and an acceptance that none is broken
-  pub refused : (answer .number ≡ 0 → ⊥) → Refused b before answer after
+  pub refused : (answer .number ≡ 0 → ⊥) → Refused b (Breaks b (length before)) before answer after
   pub sound : answer .number ≡ 0 → (n p : ℕ) → Breaks b (length before) n p → ⊥
   -- 02, W3, of every input
   pub unchanged : Unchanged b (length before) answer

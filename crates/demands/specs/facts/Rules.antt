@@ -25,9 +25,9 @@ pub data Breaks (b : Board) (room : ℕ) : ℕ → ℕ → Type 0 where
   leaves : {n p : ℕ} → LeafRule b n p → Breaks b room n p
   rowSpace : (cpus : List ℕ) → Listing (Cpu b) cpus → room < rowSize * length cpus → Breaks b room 27 0
 
--- the broken rule that 01's order tells; its number stands in one of the stages
-pub record Told (b : Board) (room n p : ℕ) : Type 0 where
-  pub first : First stage (Breaks b room) n p
+-- of a family of rules, the broken one that 01's order tells; its number stands in one of the stages
+pub record Told (Rule : ℕ → ℕ → Type 0) (n p : ℕ) : Type 0 where
+  pub first : First stage Rule n p
   pub staged : stage n < length stages
 
 -- 01's rules before 02 (W3) split number 9: rule 9 as it stood, and all others

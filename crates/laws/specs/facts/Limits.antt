@@ -36,6 +36,10 @@ maxCpus = 256
 abbrev pub maxClustersAbove : ℕ
 maxClustersAbove = 3
 
+-- the most bits of the hash of a board whose slots have a table (02, W5)
+abbrev pub maxTableBits : ℕ
+maxTableBits = 12
+
 -- the most bytes of a flattened devicetree
 abbrev pub maxBlob : ℕ
 maxBlob = 65536

@@ -40,6 +40,9 @@ rowThread row = getD row 10 0
 abbrev pub rowSlot : List ℕ → ℕ
 rowSlot row = getD row 11 0
 
--- row number k of a table
+-- row number k of a table, and its slot
 abbrev pub rowAt : List ℕ → ℕ → List ℕ
 rowAt rows k = take rowSize (drop (rowSize * k) rows)
+
+abbrev pub slotAt : List ℕ → ℕ → ℕ
+slotAt rows k = rowSlot (rowAt rows k)

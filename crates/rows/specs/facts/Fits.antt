@@ -6,21 +6,14 @@ use lib.ListN.{length, getD}
 use Rattle.laws.specs.facts.Listing.{Listing}
 use Rattle.layout.specs.facts.Row.{rowSize, gap, rowLeaf, rowCpu, rowUpper, rowLower, rowSocket, rowCluster, rowCore, rowThread, rowSlot, rowAt}
 use Rattle.affinity.specs.declared.Hash.{Hash}
-use Rattle.affinity.specs.facts.Hash.{IsHash}
 use Rattle.affinity.specs.facts.Slot.{slotOf}
 use Rattle.names.specs.facts.Kind.{Kind, Named}
 use Rattle.tables.specs.facts.Board.{Board, nodeName}
 use Rattle.tables.specs.facts.Tree.{Child, Ancestor}
-use Rattle.cpus.specs.facts.Node.{Cpu, Reg, mpidr}
+use Rattle.cpus.specs.facts.Node.{Reg, mpidr}
 use Rattle.cpumap.specs.facts.Map.{OfKind, ClusterAbove}
 use Rattle.leaves.specs.facts.Leaf.{Leaf, Names}
-
--- the MPIDRs of all cpu records, in record order
-pub record Mpidrs (b : Board) (list : List ℕ) : Type 0 where
-  pub cpus : List ℕ
-  pub listing : Listing (Cpu b) cpus
-  pub size : length list ≡ length cpus
-  pub each : (k : ℕ) → k < length cpus → (upper : ℕ) × (lower : ℕ) × Reg b (getD cpus k 0) upper lower × (getD list k 0 ≡ mpidr upper lower)
+use Rattle.rows.specs.facts.BoardHash.{BoardHash}
 
 -- the number of the leaf's socket, or GAP
 pub data SocketWord (b : Board) (leaf : ℕ) : ℕ → Type 0 where
@@ -50,12 +43,10 @@ pub data ThreadWord (b : Board) (leaf : ℕ) : ℕ → Type 0 where
   itself : (n : ℕ) → Named (nodeName b leaf) Kind.thread n → ThreadWord b leaf n
   notThread : (OfKind b Kind.thread leaf → ⊥) → ThreadWord b leaf gap
 
--- the slot of an MPIDR under the hash of all cpu records' MPIDRs
+-- the slot of an MPIDR under the board's hash
 pub record SlotWord (b : Board) (m word : ℕ) : Type 0 where
-  pub list : List ℕ
-  pub mpidrs : Mpidrs b list
   pub hash : Hash
-  pub is-hash : IsHash list hash
+  pub is-hash : BoardHash b hash
   pub slot : word ≡ slotOf hash m
 
 -- the words of one row

@@ -1,5 +1,5 @@
--- The order in which broken rules are told (01, "Numbers told, in order of checking"; 36 and 37 behind 9: 02, W3): by stage, then place,
--- then number.
+-- The order in which broken rules are told (01, "Numbers told, in order of checking"; 36 and 37 behind 9: 02, W3; 38 and 39 behind 27: 02,
+-- W5): by stage, then place, then number.
 use mathlib.Core.List.{List, [], _∷_}
 use Prim.Native.Nat.{ℕ}
 use Rattle.laws.specs.facts.First.{stageIn}
@@ -24,6 +24,8 @@ stages =
     ∷ (18 ∷ 19 ∷ 20 ∷ 21 ∷ 22 ∷ 23 ∷ 24 ∷ 25 ∷ [])
     ∷ (26 ∷ [])
     ∷ (27 ∷ [])
+    ∷ (38 ∷ [])
+    ∷ (39 ∷ [])
     ∷ []
 
 abbrev pub stage : ℕ → ℕ

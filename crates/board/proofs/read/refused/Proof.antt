@@ -1,7 +1,7 @@
 -- `refused` holds the fault, and nothing else. Assumes nothing.
 use mathlib.Core.Path.{refl}
-use Rattle.board.proofs.refused.Statement.{statement}
-use Rattle.board.proofs.refused.Tie as tie
+use Rattle.board.proofs.read.refused.Statement.{statement}
+use Rattle.board.proofs.read.refused.Tie as tie
 
 returns : tie.Need-returns
 returns c = refl

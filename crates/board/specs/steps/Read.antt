@@ -1,0 +1,25 @@
+-- What is told of a board, by what is asked for.
+use Prim.Native.Nat.{ℕ}
+use Rattle.laws.specs.declared.Fault.{Fault}
+use Rattle.laws.specs.answers.Fault.{told, orElse}
+use Rattle.slot_table.specs.answers.Table.{entriesFault}
+use Rattle.affinity.specs.answers.Hash.{hashOf}
+use Rattle.tables.specs.facts.Board.{Board}
+use Rattle.cpus.specs.answers.Check.{mpidrList}
+use Rattle.demands.specs.answers.Answer.{roomFault, boardFault}
+use Rattle.board.specs.declared.Surveyed.{Surveyed}
+use Rattle.board.specs.declared.Asked.{Asked}
+use Rattle.board.specs.declared.Asked.the-variants.{Rows, Slots}
+
+-- rules 38 and 39, where a table is asked for
+abbrev pub tableFault : Asked → ℕ → ℕ
+tableFault Rows bits = 0
+tableFault (Slots entries) bits = entriesFault bits entries
+
+-- what a survey tells, or else the first of rules 27, 38 and 39 that is broken
+abbrev pub roomsFault : Surveyed → ℕ → Asked → ℕ → Fault
+roomsFault found room asked bits = orElse (found .fault) (orElse (told (roomFault room (found .cpus)) 0) (told (tableFault asked bits) 0))
+
+-- what is told of a board
+abbrev pub readFault : Board → ℕ → Asked → Fault
+readFault b room asked = orElse (boardFault b room) (told (tableFault asked (hashOf (mpidrList b) .bits)) 0)

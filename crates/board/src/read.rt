@@ -1,0 +1,120 @@
+// Check, room, write: what both calls have in common.
+use crate::Asked;
+use crate::Surveyed;
+use crate::survey::survey;
+use affinity::Hash;
+use demands::BoardAnswer;
+use laws::Fault;
+use laws::limits::MAX_CPUS;
+use laws::limits::NO_PROPERTY;
+use laws::rules;
+use layout::ROW_WORDS;
+ghost use mathlib.Core.Path.{_≡_};
+ghost use lib.ListN.{length};
+ghost use Rattle.tables.specs.facts.Board.{board};
+ghost use Rattle.cpus.specs.answers.Check.{cpuCount, mpidrList};
+ghost use Rattle.rows.specs.answers.Write.{sourceOf};
+ghost use Rattle.demands.specs.answers.Answer.{refusedWith, answerBy, rowsBy};
+ghost use Rattle.board.specs.steps.Read.{tableFault, roomsFault, readFault};
+
+fn refused(fault: Fault) -> BoardAnswer
+    ensures { λ r. ⌜ r ≡ refusedWith fault ⌝ }
+{
+    BoardAnswer {
+        number: fault.number,
+        place: fault.place,
+        second: fault.second,
+        count: 0,
+        hash: Hash {
+            mask: 0,
+            shifts: [0; 4],
+            bits: 0,
+        },
+    }
+}
+
+// Rules 38 and 39, where a table is asked for.
+fn table_fault(asked: Asked, bits: u32) -> u32
+    ensures { λ r. ⌜ r ≡ tableFault asked bits ⌝ }
+{
+    match asked {
+        Asked::Rows => 0,
+        Asked::Slots(entries) => slot_table::entries_fault(bits, entries),
+    }
+}
+
+// What the survey tells, or else the first of rules 27, 38 and 39 that is broken, for a row buffer of so many words.
+fn rooms_fault(found: Surveyed, room: usize, asked: Asked, bits: u32) -> Fault
+    ensures { λ r. ⌜ r ≡ roomsFault found room asked bits ⌝ }
+{
+    if found.fault.number != 0 {
+        return found.fault;
+    }
+    let number = if room / ROW_WORDS < found.cpus {
+        rules::ROW_SPACE
+    } else {
+        table_fault(asked, bits)
+    };
+    Fault {
+        number,
+        place: 0,
+        second: NO_PROPERTY,
+    }
+}
+
+// Reads a board's tables: the rows are written where no rule is broken.
+pub fn read(
+    width: u32,
+    nodes: &[u32],
+    props: &[u32],
+    pool: &[u8],
+    rows: &mut [u32],
+    asked: Asked,
+) -> BoardAnswer
+    ensures answer { λ r.
+        let b = board width (now (nodes .entry)) (now (props .entry)) (now (pool .entry)) in
+        ⌜ r ≡ answerBy (readFault b (length (now (rows .entry))) asked) (cpuCount b) (mpidrList b) ⌝ }
+    ensures rows { λ _.
+        let b = board width (now (nodes .entry)) (now (props .entry)) (now (pool .entry)) in
+        ⌜ now (rows .exit) ≡ rowsBy (readFault b (length (now (rows .entry))) asked) (sourceOf b) (now (rows .entry)) ⌝ }
+{
+    let mut cpus = [0u16; MAX_CPUS];
+    let mut mpidrs = [0u64; MAX_CPUS];
+    let mut leaves = [0u16; MAX_CPUS];
+    let mut named = [0u16; MAX_CPUS];
+    let found = survey(
+        width,
+        nodes,
+        props,
+        pool,
+        &mut cpus,
+        &mut mpidrs,
+        &mut leaves,
+        &mut named,
+    );
+    let count = found.cpus;
+    let leaf_count = found.leaves;
+    let listed = &mpidrs[..count];
+    let hash = affinity::hash_of_mask(affinity::mask_of(listed));
+    let fault = rooms_fault(found, rows.len(), asked, hash.bits);
+    if fault.number != 0 {
+        return refused(fault);
+    }
+    rows::write_rows(
+        rows,
+        nodes,
+        pool,
+        &cpus[..count],
+        listed,
+        &leaves[..leaf_count],
+        &named[..leaf_count],
+        hash,
+    );
+    BoardAnswer {
+        number: 0,
+        place: 0,
+        second: NO_PROPERTY,
+        count,
+        hash,
+    }
+}

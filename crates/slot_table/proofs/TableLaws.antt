@@ -1,0 +1,208 @@
+-- Rows entered in a table: its length, what each entry holds, and where each row is found. Assumes nothing.
+use mathlib.Core.Path.{_≡_, refl, sym, ap, _∙_}
+use mathlib.Core.Bool.{Bool, true, false, cond}
+use mathlib.Core.Logic.{_⊎_, inl, inr, ⊎-elim}
+use mathlib.Core.List.{List}
+use Prim.Native.Nat.{ℕ, zero, suc, _+_, _*_, _/_, _%_, _^_, _≤_, _<_}
+use native.Mathlib.Nat.{eq-or-lt-of-le, le-of-suc-le-suc}
+use native.Mathlib.Numerals.{add-one}
+use native.Mathlib.Omega.{arith}
+use lib.Dec.{ltb}
+use lib.ListN.{length, getD, take, drop, set, take-append-drop, replicate, length-set, length-append, length-drop, length-replicate, getD-replicate, List·getD-append}
+use lib.Seq.{length-take-le, getD-set-same, getD-set-other, getD-take, getD-drop, ext-getD, getD-append-add}
+use borrow.Author.Tests.{lt-ltb, le-ltb, ltb-true, eq-eqb}
+use Rattle.laws.proofs.BlockLaws.{block-front}
+use Rattle.laws.proofs.DecideLaws.{decided, eq-decides}
+use Rattle.layout.specs.facts.Row.{rowSize, gap, rowSlot, slotAt}
+use Rattle.slot_table.specs.facts.SlotTable.{SlotTableRule, SlotTable, Slotted}
+use Rattle.slot_table.specs.answers.Table.{blank, enteredBelow, filled}
+use Rattle.slot_table.proofs.FaultLaws.{entries-clear, entries-sound}
+
+module _ (slot : ℕ → ℕ) (size : ℕ) (table : List ℕ) where
+  abbrev entered : ℕ → List ℕ
+  entered n = enteredBelow slot size n table
+
+  pub entered-length : (n : ℕ) → length (entered n) ≡ length table
+  unfolding enteredBelow
+  entered-length zero = refl
+  entered-length (suc n) = go (ltb (slot n) size) (entered-length n)
+    where
+      go : (t : Bool) → length (entered n) ≡ length table → length (cond t (set (entered n) (slot n) (n % 2 ^ 32)) (entered n)) ≡ length table
+      go true h = length-set (entered n) (slot n) (n % 2 ^ 32) ∙ h
+      go false h = h
+
+  -- what an entry holds: what stood there, or a row with that slot, below the size
+  abbrev Entry : ℕ → ℕ → ℕ → Type 0
+  Entry n s v = (v ≡ getD table s 0) ⊎ ((v < n) × (slot v ≡ s) × (s < size))
+
+  entry-more : (n s v : ℕ) → Entry n s v → Entry (suc n) s v
+  entry-more n s v = ⊎-elim inl (λ w. inr (omega (arith, w .0), w .1, w .2))
+
+  entered-names : (n s : ℕ) → n ≤ gap → s < length table → Entry n s (getD (entered n) s 0)
+  unfolding enteredBelow
+  entered-names zero s few lt = inl refl
+  entered-names (suc n) s few lt =
+      go (ltb (slot n) size) refl (entry-more n s (getD (entered n) s 0) (entered-names n s (omega arith) lt))
+    where
+      go :
+          (t : Bool) →
+          ltb (slot n) size ≡ t →
+          Entry (suc n) s (getD (entered n) s 0) →
+          Entry (suc n) s (getD (cond t (set (entered n) (slot n) (n % 2 ^ 32)) (entered n)) s 0)
+      go false e h = h
+      go true e h =
+          ⊎-elim
+          (λ q.
+          let value : getD (set (entered n) (slot n) (n % 2 ^ 32)) s 0 ≡ n =
+          ap (λ (i : ℕ). getD (set (entered n) i (n % 2 ^ 32)) s 0) q
+          ∙ getD-set-same (entered n) s (n % 2 ^ 32) 0 (rw (entered-length n) lt) ∙ omega arith in
+          rw value (inr (omega arith, q, rw q at (ltb-true (slot n) size e))))
+          (λ ne. rw (getD-set-other (entered n) (slot n) s (n % 2 ^ 32) 0 (λ q. ne (sym q))) h)
+          (decided (eq-decides (slot n) s))
+
+  entered-at : (n : ℕ) → size ≤ length table → Slotted slot n size → (k : ℕ) → k < n → getD (entered n) (slot k) 0 ≡ k
+  unfolding enteredBelow
+  entered-at zero room rows k lt = absurd (omega arith)
+  entered-at (suc n) room rows k lt =
+      rw (lt-ltb (slot n) size (rows .bounded n (omega arith)))
+      (⊎-elim here (λ l. there l (entered-at n room less k l)) (eq-or-lt-of-le (le-of-suc-le-suc lt)))
+    where
+      less : Slotted slot n size
+      less =
+          record {
+            distinct = λ i j p q. rows .distinct i j (omega arith) (omega arith);
+            bounded = λ j p. rows .bounded j (omega arith);
+            few = omega (arith, rows .few);
+          }
+
+      here : k ≡ n → getD (set (entered n) (slot n) (n % 2 ^ 32)) (slot k) 0 ≡ k
+      here e =
+          rw e
+          (getD-set-same (entered n) (slot n) (n % 2 ^ 32) 0 (rw (entered-length n) (omega (arith, rows .bounded n (omega arith))))
+          ∙ omega (arith, rows .few))
+
+      there : k < n → getD (entered n) (slot k) 0 ≡ k → getD (set (entered n) (slot n) (n % 2 ^ 32)) (slot k) 0 ≡ k
+      there l h =
+          getD-set-other (entered n) (slot n) (slot k) (n % 2 ^ 32) 0
+          (λ e. let q = rows .distinct k n (omega arith) (omega arith) e in omega arith)
+          ∙ h
+
+-- the word of a row that holds its slot
+pub slot-word : (rows : List ℕ) (k : ℕ) → getD rows (rowSize * k + 11) 0 ≡ slotAt rows k
+slot-word rows k = sym (getD-take rowSize (drop (rowSize * k) rows) 11 0 (omega arith) ∙ getD-drop (rowSize * k) rows 11 0)
+
+-- one row more
+module _ (slot : ℕ → ℕ) (size k : ℕ) (before : List ℕ) {table : List ℕ} (entered-so-far : table ≡ enteredBelow slot size k before) where
+  pub entered-yes : slot k < size → set table (slot k) (k % 2 ^ 32) ≡ enteredBelow slot size (k + 1) before
+  unfolding enteredBelow
+  entered-yes lt = rw (add-one k, lt-ltb (slot k) size lt, entered-so-far)
+
+  pub entered-no : size ≤ slot k → table ≡ enteredBelow slot size (k + 1) before
+  unfolding enteredBelow
+  entered-no le = rw (add-one k, le-ltb (slot k) size le) entered-so-far
+
+-- the whole table
+module _ (slot : ℕ → ℕ) (count size : ℕ) (before : List ℕ) (room : size ≤ length before) (rows : Slotted slot count size) where
+  abbrev marked : List ℕ
+  marked = blank size before
+
+  abbrev after : List ℕ
+  after = enteredBelow slot size count marked
+
+  marked-length : length marked ≡ length before
+  marked-length =
+      length-append (replicate {A = ℕ} size gap) (drop size before)
+      ∙ rw (length-replicate {A = ℕ} size gap, length-drop size before) (omega arith)
+
+  marked-gap : (s : ℕ) → s < size → getD marked s 0 ≡ gap
+  marked-gap s lt =
+      List·getD-append (replicate {A = ℕ} size gap) (drop size before) 0 s (rw (length-replicate {A = ℕ} size gap) lt)
+      ∙ getD-replicate {A = ℕ} size s gap 0 lt
+
+  after-length : length after ≡ length before
+  after-length = entered-length slot size marked count ∙ marked-length
+
+  entry : (s : ℕ) → s < size → Entry slot size marked count s (getD after s 0)
+  entry s lt = entered-names slot size marked count s (rows .few) (rw marked-length (omega arith))
+
+  found : (k : ℕ) → k < count → getD after (slot k) 0 ≡ k
+  found = entered-at slot size marked count (rw marked-length room) rows
+
+  -- the entries behind the table's
+  rest : drop size after ≡ drop size before
+  rest = ext-getD 0 (drop size after) (drop size before) lengths later
+    where
+      lengths : length (drop size after) ≡ length (drop size before)
+      lengths = rw (length-drop size after, length-drop size before, after-length)
+
+      later : (i : ℕ) → i < length (drop size after) → getD (drop size after) i 0 ≡ getD (drop size before) i 0
+      later i lt =
+          getD-drop size after i 0
+          ∙ ⊎-elim (λ e. e) (λ w. absurd (omega (arith, w .2))) (entered-names slot size marked count (size + i) (rows .few) inside)
+          ∙ ap (λ (k : ℕ). getD marked (k + i) 0) (sym (length-replicate {A = ℕ} size gap))
+          ∙ getD-append-add (replicate {A = ℕ} size gap) (drop size before) i 0
+        where
+          inside : size + i < length marked
+          inside = rw marked-length (omega (arith, rw (length-drop size after, after-length) at lt))
+
+  pub slot-table : SlotTable slot count size before after
+  slot-table =
+      record {
+        found = λ k lt. (rows .bounded k lt, found k lt);
+        named = λ s lt ne. ⊎-elim (λ e. absurd (ne (e ∙ marked-gap s lt))) (λ w. (w .0, w .1)) (entry s lt);
+        gaps = λ s lt. (
+          λ e k l q. omega (arith, sym (found k l) ∙ ap (λ (i : ℕ). getD after i 0) q ∙ e, rows .few),
+          λ none. ⊎-elim (λ e. e ∙ marked-gap s lt) (λ w. absurd (none (getD after s 0) (w .0) (w .1))) (entry s lt),
+        );
+        room = rw after-length room;
+        rest = rest;
+        kept = after-length;
+      }
+
+-- rows at the front of a buffer: their table
+module _ (rows : List ℕ) (count : ℕ) (whole : rowSize * count ≤ length rows) where
+  abbrev front : List ℕ
+  front = take (rowSize * count) rows
+
+  front-length : length front ≡ rowSize * count
+  front-length = length-take-le (rowSize * count) rows whole
+
+  front-slot : (k : ℕ) → k < count → slotAt front k ≡ slotAt rows k
+  front-slot k lt =
+      ap rowSlot (sym (block-front rowSize front (drop (rowSize * count) rows) count k front-length lt))
+      ∙ ap (λ (l : List ℕ). slotAt l k) (take-append-drop (rowSize * count) rows)
+
+  module _ {size : ℕ} where
+    front-slotted : Slotted (slotAt rows) count size → Slotted (slotAt front) count size
+    front-slotted h =
+        record {
+          distinct = λ j k lj lk e. h .distinct j k lj lk (sym (front-slot j lj) ∙ e ∙ front-slot k lk);
+          bounded = λ k lt. rw (front-slot k lt) (h .bounded k lt);
+          few = h .few;
+        }
+
+    rows-table : {before after : List ℕ} → SlotTable (slotAt front) count size before after → SlotTable (slotAt rows) count size before after
+    rows-table {before} {after} h =
+        record {
+          found = λ k lt. rw (front-slot k lt) at (h .found k lt);
+          named = λ s lt ne. let row = h .named s lt ne in (row .0, sym (front-slot _ (row .0)) ∙ row .1);
+          gaps = λ s lt. (
+            λ e k l q. h .gaps s lt .0 e k l (front-slot k l ∙ q),
+            λ none. h .gaps s lt .1 (λ k l q. none k l (sym (front-slot k l) ∙ q)),
+          );
+          room = h .room;
+          rest = h .rest;
+          kept = h .kept;
+        }
+
+  pub filled-table :
+      (bits : ℕ) (before : List ℕ) →
+      ((n p : ℕ) → SlotTableRule bits (length before) n p → ⊥) →
+      Slotted (slotAt rows) count (2 ^ bits) →
+      SlotTable (slotAt rows) count (2 ^ bits) before (filled front bits before)
+  unfolding filled
+  filled-table bits before none h =
+      let clear = entries-sound bits (length before) none in
+      let many : length front / rowSize ≡ count = omega (arith, front-length) in
+      rw (eq-eqb _ 0 clear, many)
+      (rows-table (slot-table (slotAt front) count (2 ^ bits) before (entries-clear bits (length before) clear .1) (front-slotted h)))

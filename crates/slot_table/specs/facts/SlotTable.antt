@@ -1,0 +1,40 @@
+-- The table from slots to rows (02, W5): its two rules, and what its entries are.
+use mathlib.Core.Path.{_≡_}
+use mathlib.Core.Logic.{_↔_}
+use mathlib.Core.List.{List}
+use Prim.Native.Nat.{ℕ, _/_, _^_, _≤_, _<_}
+use lib.ListN.{length, getD, drop}
+use Rattle.laws.specs.facts.Limits.{maxTableBits}
+use Rattle.layout.specs.facts.Row.{rowSize, gap, slotAt}
+
+-- a rule is broken at a place, for a hash of so many bits and a table of so many entries
+pub data SlotTableRule (bits entries : ℕ) : ℕ → ℕ → Type 0 where
+  manyBits : maxTableBits < bits → SlotTableRule bits entries 38 0
+  shortTable : entries < 2 ^ bits → SlotTableRule bits entries 39 0
+
+-- a table of `size` entries for `count` rows with these slots: the lent words before and after
+pub record SlotTable (slot : ℕ → ℕ) (count size : ℕ) (before after : List ℕ) : Type 0 where
+  -- each row is found from its slot
+  pub found : (k : ℕ) → k < count → (slot k < size) × (getD after (slot k) 0 ≡ k)
+  -- an entry that is not GAP names a row with that slot
+  pub named : (s : ℕ) → s < size → (getD after s 0 ≡ gap → ⊥) → (getD after s 0 < count) × (slot (getD after s 0) ≡ s)
+  -- GAP stands exactly where no row has the slot
+  pub gaps : (s : ℕ) → s < size → (getD after s 0 ≡ gap) ↔ ((k : ℕ) → k < count → slot k ≡ s → ⊥)
+  -- the entries are there, and all behind them is as it was
+  pub room : size ≤ length after
+  pub rest : drop size after ≡ drop size before
+  pub kept : length after ≡ length before
+
+-- rows that a table can tell apart: no two have one slot, each slot is below the size, and GAP is no row's number
+pub record Slotted (slot : ℕ → ℕ) (count size : ℕ) : Type 0 where
+  pub distinct : (j k : ℕ) → j < count → k < count → slot j ≡ slot k → j ≡ k
+  pub bounded : (k : ℕ) → k < count → slot k < size
+  pub few : count ≤ gap
+
+-- where neither rule is broken and the rows can be told apart, the table is theirs
+abbrev pub Tabled : (rows : List ℕ) (bits : ℕ) (before after : List ℕ) → Type 0
+Tabled rows bits before after =
+    let count = length rows / rowSize in
+    ((n p : ℕ) → SlotTableRule bits (length before) n p → ⊥) →
+    Slotted (slotAt rows) count (2 ^ bits) →
+    SlotTable (slotAt rows) count (2 ^ bits) before after
