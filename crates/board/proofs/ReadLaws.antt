@@ -2,20 +2,19 @@
 use mathlib.Core.Path.{_≡_, refl, sym, ap, _∙_}
 use mathlib.Core.Bool.{Bool, true, false, cond}
 use mathlib.Core.List.{List}
-use Prim.Native.Nat.{ℕ, _*_, _≤_, _<_}
+use Prim.Native.Nat.{ℕ, _≤_}
 use native.Mathlib.Omega.{arith}
-use lib.Dec.{eqb, ltb}
+use lib.Dec.{eqb}
 use lib.ListN.{length}
 use borrow.Author.Tests.{eq-eqb, ne-eqb, eqb-true, eqb-false}
 use Rattle.laws.specs.declared.Fault.{Fault}
 use Rattle.laws.specs.facts.Limits.{noProperty}
 use Rattle.laws.specs.answers.Fault.{told, orElse}
-use Rattle.laws.proofs.FaultLaws.{or-first, or-second}
+use Rattle.laws.proofs.FaultLaws.{or-first}
 use Rattle.laws.proofs.OrElseLaws.{or-assoc, or-clear}
-use Rattle.layout.specs.facts.Row.{rowSize}
 use Rattle.affinity.specs.declared.Hash.{Hash}
 use Rattle.affinity.specs.answers.Hash.{hashOf}
-use Rattle.tables.specs.facts.Board.{Board, WordSized}
+use Rattle.tables.specs.facts.Board.{Board}
 use Rattle.cpus.specs.answers.Check.{cpuCount, cpuList, mpidrList}
 use Rattle.cpumap.specs.answers.Find.{mapOf, mapFault, mapScan}
 use Rattle.leaves.specs.answers.Scan.{leavesOf, namedOf}

@@ -110,7 +110,8 @@ module _ (b : Board) (room entries : ℕ) where
   slots-fault-place : slotsFault b room entries .place ≤ maxProperties
   unfolding slotsFault
   slots-fault-place =
-      else-place (boardFault b room) _ (fault-place b room) λ _. le-trans (told-place (entriesFault (hashOf (mpidrList b) .bits) entries) 0) (omega arith)
+      else-place (boardFault b room) _ (fault-place b room) λ _.
+      le-trans (told-place (entriesFault (hashOf (mpidrList b) .bits) entries) 0) (omega arith)
 
   pub slots-place : slotsAnswer b room entries .place ≤ maxProperties
   unfolding slotsAnswer

@@ -84,4 +84,7 @@ demands-unique {b} before {x} {y} {after} {other} h g = go (eqb (x .number) 0) r
         both-accept b before x y after other (λ n p r. h .sound zx n p (Breaks.tables r)) zx zy (accepted h zx) (accepted g zy)
     go true e false f = apart h g (eqb-true (x .number) 0 e) (eqb-false (y .number) 0 f)
     go false e true f = apart g h (eqb-true (y .number) 0 f) (eqb-false (x .number) 0 e)
-    go false e false f = both-refuse b before x y after other (Breaks b (length before)) (h .refused (eqb-false (x .number) 0 e)) (g .refused (eqb-false (y .number) 0 f))
+    go false e false f =
+        both-refuse b before x y after other (Breaks b (length before))
+        (h .refused (eqb-false (x .number) 0 e))
+        (g .refused (eqb-false (y .number) 0 f))

@@ -12,7 +12,7 @@ use Rattle.laws.proofs.SearchLaws.{lt-or-le}
 use Rattle.laws.proofs.OrElseLaws.{told-number}
 use Rattle.laws.proofs.RuleStageLaws.{tells-none}
 use Rattle.layout.specs.facts.Row.{rowSize, slotAt}
-use Rattle.slot_table.specs.facts.SlotTable.{SlotTableRule, SlotTable, Slotted}
+use Rattle.slot_table.specs.facts.SlotTable.{SlotTable, Slotted}
 use Rattle.slot_table.specs.answers.Table.{entriesFault}
 use Rattle.slot_table.proofs.FaultLaws.{entries-sound}
 use Rattle.slot_table.proofs.TableLaws.{filled-table}

@@ -1,5 +1,5 @@
 -- With 38 and 39 behind them, the stages in order tell the first broken rule of the larger family. Assumes nothing.
-use mathlib.Core.Path.{_≡_, refl, sym, ap}
+use mathlib.Core.Path.{_≡_, refl}
 use mathlib.Core.Bool.{Bool, true, false, cond}
 use Prim.Native.Nat.{ℕ, _^_, _≤_, _<_}
 use native.Mathlib.Omega.{arith}
@@ -13,14 +13,12 @@ use Rattle.laws.proofs.VerdictLaws.{once-tells}
 use Rattle.slot_table.specs.facts.SlotTable.{SlotTableRule}
 use Rattle.slot_table.specs.answers.Table.{entriesFault}
 use Rattle.slot_table.proofs.FaultLaws.{bitsFault, spaceFault, bits-told, space-told}
-use Rattle.affinity.specs.declared.Hash.{Hash}
 use Rattle.affinity.specs.answers.Hash.{hashOf}
 use Rattle.tables.specs.facts.Board.{Board, WordSized}
 use Rattle.wellformed.specs.facts.Order.{stages, stage}
 use Rattle.wellformed.specs.facts.Rules.{WellFormed}
 use Rattle.cpus.specs.facts.Rules.{SoundCpus}
 use Rattle.cpus.specs.answers.Check.{mpidrList}
-use Rattle.rows.specs.facts.BoardHash.{BoardHash}
 use Rattle.rows.proofs.SourceMeans.{board-hash}
 use Rattle.rows.proofs.FitUnique.{board-hash-unique}
 use Rattle.demands.specs.facts.Rules.{Breaks}

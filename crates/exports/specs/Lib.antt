@@ -1,2 +1,3 @@
 -- What the contracts of the exported calls cite.
 pub mod answers
+pub mod steps

@@ -1,10 +1,13 @@
 // The eleven words of an answer.
 use affinity::Hash;
+use demands::BoardAnswer;
 use laws::limits::NO_PROPERTY;
 ghost use mathlib.Core.Path.{_≡_};
 ghost use Prim.Native.Nat.{_≤_};
 ghost use lib.ListN.{length};
 ghost use Rattle.exports.specs.answers.Answer.{answerSize, answerWords, orShort, answerAfter};
+ghost use Rattle.exports.specs.answers.Board.{boardWords};
+ghost use Rattle.exports.specs.steps.Board.{Words};
 
 // The words of an answer.
 pub const ANSWER_WORDS: usize = 11;
@@ -45,4 +48,22 @@ pub fn put_answer(
     answer[9] = hash.bits;
     answer[10] = second;
     number
+}
+
+// The same for the answer of a board, whose numbers are words.
+pub fn put_board(answer: &mut [u32], found: BoardAnswer) -> u32
+    requires room { ⌜ answerSize ≤ length (now answer) ⌝ }
+    requires words { ⌜ Words found ⌝ }
+    ensures number { λ r. ⌜ r ≡ orShort (now (answer .entry)) (found .number) ⌝ }
+    ensures answer { λ _. ⌜ now (answer .exit) ≡ answerAfter (now (answer .entry)) (boardWords found) ⌝ }
+{
+    let hash = found.hash;
+    put_answer(
+        answer,
+        found.number,
+        found.place as u32,
+        found.second as u32,
+        found.count as u32,
+        hash,
+    )
 }

@@ -1,6 +1,6 @@
 // The reading call.
 use crate::answer::ANSWER_WORDS;
-use crate::answer::put_answer;
+use crate::answer::put_board;
 use laws::rules;
 ghost use mathlib.Core.Path.{_≡_};
 ghost use Prim.Native.Nat.{_≤_};
@@ -39,13 +39,5 @@ pub extern "C" fn sunderwath_read_tables(
         return rules::ANSWER_SPACE;
     }
     let found = board::read_tables(width, nodes, props, pool, rows);
-    let hash = found.hash;
-    put_answer(
-        answer,
-        found.number,
-        found.place as u32,
-        found.second as u32,
-        found.count as u32,
-        hash,
-    )
+    put_board(answer, found)
 }

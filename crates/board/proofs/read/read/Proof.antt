@@ -3,7 +3,7 @@ use mathlib.Core.Path.{_≡_, sym, ap, _∙_}
 use mathlib.Core.List.{List}
 use Prim.Native.Nat.{ℕ, _≤_}
 use native.Mathlib.Omega.{arith}
-use lib.ListN.{length, take, replicate, length-map, length-replicate}
+use lib.ListN.{length, replicate, length-map, length-replicate}
 use lib.Seq.{length-take-le}
 use Rattle.laws.specs.declared.Fault.{Fault}
 use Rattle.affinity.specs.declared.Hash.{Hash}
@@ -99,7 +99,10 @@ module _ (c : tie.After-rooms-fault) where
       ∙ ap maskOf (front-is _ _ (lists call z .mpidrs-laid) (mpidr-size call z) (few-mpidrs call z)))
 
   told-is : told ≡ readFault (theBoard call) (length (rows call)) (entry call .args .asked)
-  told-is = c .rooms-fault .ensures ∙ rooms-is (theBoard call) (call .survey .ensures .0) (length (rows call)) (entry call .args .asked) (λ z. ap (λ (h : Hash). h .bits) (hash-is z))
+  told-is =
+      c .rooms-fault .ensures
+      ∙ rooms-is (theBoard call) (call .survey .ensures .0) (length (rows call)) (entry call .args .asked)
+      (λ z. ap (λ (h : Hash). h .bits) (hash-is z))
 
   unrefused : told .number ≡ 0 → surveyFault (theBoard call) .number ≡ 0
   unrefused = survey-clear (theBoard call) (rows call) (entry call .args .asked) told-is

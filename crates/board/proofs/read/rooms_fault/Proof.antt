@@ -29,7 +29,8 @@ returns-2 c =
 returns-3 : tie.Need-returns-3
 returns-3 c =
     let a = c .before .before .before .before .before .args in
-    rw (or-second (a .found .fault) _ (c .before .before .before .if1 .left), le-ltb (a .room) (rowSize * a .found .cpus) (omega (arith, c .before .if2 .left)))
+    let room = le-ltb (a .room) (rowSize * a .found .cpus) (omega (arith, c .before .if2 .left)) in
+    rw (or-second (a .found .fault) _ (c .before .before .before .if1 .left), room)
     (told-zero _ ∙ ap (λ (v : ℕ). told v 0) (c .table-fault .ensures))
 
 pub rooms-fault-spec : {M : Type 1} → statement M

@@ -1,5 +1,4 @@
 -- `table_fault` tells 38 and 39 where a table is asked for. Assumes nothing.
-use mathlib.Core.Path.{sym, ap, _∙_}
 use borrow.Author.Needs.{needs}
 use Rattle.board.proofs.read.table_fault.Statement.{statement}
 use Rattle.board.proofs.read.table_fault.Tie as tie

@@ -2,8 +2,7 @@
 use native.Mathlib.Omega.{arith}
 use lib.ListN.{length}
 use borrow.Author.Tests.{lt-ltb, le-ltb}
-use Rattle.demands.proofs.BoundLaws.{answer-place, answer-second, answer-count}
-use Rattle.exports.proofs.CallLaws.{word-holds}
+use Rattle.exports.proofs.CallLaws.{board-words}
 use borrow.Author.Needs.{needs}
 use Rattle.exports.proofs.read.sunderwath_read_tables.Statement.{statement}
 use Rattle.exports.proofs.read.sunderwath_read_tables.Tie as tie
@@ -17,18 +16,10 @@ returns c =
 read-tables-requires : tie.Need-read-tables-requires
 read-tables-requires c κs = search needs
 
-cast-put-answer : tie.Need-cast-put-answer
-cast-put-answer c = rw (c .before .before .before .before .before .read-tables .ensures .0) (word-holds (answer-place _ _) (omega arith))
-
-cast-put-answer-2 : tie.Need-cast-put-answer-2
-cast-put-answer-2 c = rw (c .before .before .before .before .before .before .read-tables .ensures .0) (word-holds (answer-second _ _) (omega arith))
-
-cast-put-answer-3 : tie.Need-cast-put-answer-3
-cast-put-answer-3 c =
-    rw (c .before .before .before .before .before .before .before .read-tables .ensures .0) (word-holds (answer-count _ _) (omega arith))
-
-put-answer-requires : tie.Need-put-answer-requires
-put-answer-requires c κs = search needs
+put-board-requires : tie.Need-put-board-requires
+put-board-requires c κs =
+    let call = c .before .before .before in
+    (omega arith, rw (call .read-tables .ensures .0) (board-words _ _))
 
 same-length : tie.Need-same-length
 same-length c = search needs
@@ -38,29 +29,15 @@ same-length-2 c = search needs
 
 returns-2 : tie.Need-returns-2
 returns-2 c =
-    let call = c .before .before .before .before .before .before .before .before .before .before in
+    let call = c .before .before .before .before .before .before in
     let is = call .read-tables .ensures .0 in
-    let told = c .before .before .put-answer .ensures in (
+    let told = c .before .before .put-board .ensures in (
       rw (← is) (told .0),
       (
         rw (le-ltb _ _ (call .before .before .if1 .left)) (call .read-tables .ensures .1 .0),
-        (
-          rw (← is) (told .1),
-          λ _. rw (← is) (call .read-tables .ensures .1 .1),
-        ),
+        (rw (← is) (told .1), λ _. rw (← is) (call .read-tables .ensures .1 .1)),
       ),
     )
 
 pub sunderwath-read-tables-spec : {M : Type 1} → statement M
-sunderwath-read-tables-spec =
-    tie.close
-    (tie.spec
-    returns
-    read-tables-requires
-    cast-put-answer
-    cast-put-answer-2
-    cast-put-answer-3
-    put-answer-requires
-    same-length
-    same-length-2
-    returns-2)
+sunderwath-read-tables-spec = tie.close (tie.spec returns read-tables-requires put-board-requires same-length same-length-2 returns-2)

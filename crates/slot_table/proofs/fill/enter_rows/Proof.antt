@@ -1,9 +1,8 @@
 -- `enter_rows` enters each row at its slot. Assumes nothing.
-use mathlib.Core.Path.{_≡_, refl, ap, _∙_}
-use mathlib.Core.List.{List}
+use mathlib.Core.Path.{_≡_, refl, _∙_}
 use Prim.Native.Nat.{_+_, _*_, _-_, _/_, _≤_}
 use native.Mathlib.Omega.{arith}
-use lib.ListN.{length, set, length-set}
+use lib.ListN.{length, length-set}
 use Rattle.layout.specs.facts.Row.{rowSize, slotAt}
 use Rattle.slot_table.specs.answers.Table.{enteredBelow}
 use borrow.Author.Needs.{needs}

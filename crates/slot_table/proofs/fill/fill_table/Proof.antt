@@ -34,7 +34,8 @@ returns : tie.Need-returns
 unfolding filled
 returns c =
     let begun = c .before .before .before .before in
-    let told : entriesFault (begun .args .bits) (length (begun .args .table .now)) ≡ 0 → ⊥ = λ z. c .if1 .taken (c .before .entries-fault .ensures ∙ z) in
+    let told : entriesFault (begun .args .bits) (length (begun .args .table .now)) ≡ 0 → ⊥ =
+    λ z. c .if1 .taken (c .before .entries-fault .ensures ∙ z) in
     (rw (ne-eqb _ 0 told), λ none _. absurd (told (entries-sound _ _ none)))
 
 shl-size : tie.Need-shl-size

@@ -1,0 +1,2 @@
+-- What contracts inside the crate and its proofs use.
+pub mod Board

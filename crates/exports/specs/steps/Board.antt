@@ -1,0 +1,8 @@
+-- An answer whose numbers are words.
+use Prim.Native.Nat.{_^_, _<_}
+use Rattle.demands.specs.declared.BoardAnswer.{BoardAnswer}
+
+pub record Words (a : BoardAnswer) : Type 0 where
+  pub place : a .place < 2 ^ 32
+  pub second : a .second < 2 ^ 32
+  pub count : a .count < 2 ^ 32
