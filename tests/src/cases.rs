@@ -2,7 +2,8 @@
 //! reader has it.
 
 use crate::answer::Answer;
-use crate::build::cases::{boards, lists, Case, List, NAMES};
+use crate::build::cases::{boards, lists, slot_boards, Case, List, SlotCase, NAMES};
+use crate::build::Board;
 use crate::compare::second_tables;
 use crate::second::{self, Kind};
 use std::fmt::{Display, Write};
@@ -13,12 +14,16 @@ const ROW_WORDS: usize = 12;
 const BOARD: u32 = 0;
 const LIST: u32 = 1;
 const NAME: u32 = 2;
+const SLOTS: u32 = 3;
 
 /// The longest text and the longest name that the program takes.
 const TEXT_BYTES: usize = 96;
 
 /// What each word of a row buffer is before a board is read.
 const UNTOUCHED: u32 = 9;
+
+/// The same of a table: no row has this number.
+const NO_ROW: u32 = 777;
 
 /// The rows that are lent to a board that is refused.
 const REFUSED_ROWS: usize = 6;
@@ -33,17 +38,27 @@ pub struct Files {
     data: Vec<u8>,
 }
 
+/// The words lent for rows: a row more than is needed, or some for a refusal.
+fn lent(board: &Board, answer: &Answer) -> usize {
+    let rows = match answer.number {
+        0 => answer.count as usize + 1,
+        _ => REFUSED_ROWS,
+    };
+    board.room.min(rows * ROW_WORDS)
+}
+
 /// The number of cases, the cases, and the end of the last line.
 pub fn files() -> Files {
-    let (boards, lists) = (boards(), lists());
+    let (boards, tabled, lists) = (boards(), slot_boards(), lists());
     let asked: usize = lists.iter().map(|list| list.asked.len()).sum();
     let mut files = Files::default();
-    files.start(boards.len() + asked + NAMES.len());
+    files.start(boards.len() + tabled.len() + asked + NAMES.len());
     for list in &lists {
         list.asked.iter().for_each(|&mpidr| files.list(list, mpidr));
     }
     NAMES.iter().for_each(|name| files.name(name));
     boards.iter().for_each(|board| files.board(board));
+    tabled.iter().for_each(|board| files.slots(board));
     files.text("\n");
     files
 }
@@ -131,12 +146,7 @@ impl Files {
     fn board(&mut self, (label, board): &Case) {
         let (answer, mut rows) = second::read(&second_tables(board));
         let accepted = answer.number == 0;
-        let lent = if accepted {
-            answer.count as usize + 1
-        } else {
-            REFUSED_ROWS
-        };
-        let room = board.room.min(lent * ROW_WORDS);
+        let room = lent(board, &answer);
         self.word(BOARD);
         self.words(&board.nodes);
         self.words(&board.props);
@@ -150,6 +160,33 @@ impl Files {
         for (at, word) in rows.iter().enumerate() {
             let starts = at == 0 || accepted && at % ROW_WORDS == 0;
             self.told(if starts { "\n " } else { " " }, word);
+        }
+    }
+
+    /// The same with a table, which stands behind the rows on a line of its own.
+    fn slots(&mut self, (label, board, entries): &SlotCase) {
+        let (answer, _) = second::read(&second_tables(board));
+        let room = lent(board, &answer);
+        let (rows, table) = (vec![UNTOUCHED; room], vec![NO_ROW; *entries]);
+        let mut tables = second_tables(board);
+        tables.room = room;
+        let read = second::read_slots(&tables, &rows, &table);
+        self.word(SLOTS);
+        self.words(&board.nodes);
+        self.words(&board.props);
+        self.bytes(&board.pool);
+        self.words(&rows);
+        self.words(&table);
+        self.word(board.width);
+        self.told(&format!("\n{label}: number "), read.answer.number);
+        self.answer(&read.answer, ", count ", &read.answer);
+        self.told(", second place ", read.answer.second);
+        for (at, word) in read.rows.iter().enumerate() {
+            let starts = at % ROW_WORDS == 0;
+            self.told(if starts { "\n " } else { " " }, word);
+        }
+        for (at, word) in read.table.iter().enumerate() {
+            self.told(if at == 0 { "\n  slots " } else { " " }, word);
         }
     }
 }

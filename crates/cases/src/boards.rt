@@ -3,12 +3,12 @@ use crate::input;
 use crate::say;
 
 // Room for a record or a row more than the limits allow.
-fn table() -> [u32; 20485] {
+pub fn table() -> [u32; 20485] {
     [0; 20485]
 }
 
 // Room for a byte more than the limit allows.
-fn pool() -> [u8; 65537] {
+pub fn pool() -> [u8; 65537] {
     [0; 65537]
 }
 

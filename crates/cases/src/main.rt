@@ -1,13 +1,16 @@
-// Runs the cases of standard input and writes what the library answers of each: boards, lists of MPIDRs and names. The texts between the
+// Runs the cases of standard input and writes what the library answers of each: boards, boards with a table of slots, lists of MPIDRs and names. The texts between the
 // numbers are of standard input too. tests/src/bin/make_cases.rs makes the files stdin and stdout; the answers in stdout are the second reader's.
 mod boards;
 mod input;
 mod lists;
 mod say;
+mod slots;
 
 const BOARD: u32 = 0;
 
 const LIST: u32 = 1;
+
+const SLOTS: u32 = 3;
 
 // The kind of a name and its number.
 fn name() {
@@ -28,6 +31,8 @@ fn main() {
             boards::board();
         } else if kind == LIST {
             lists::list();
+        } else if kind == SLOTS {
+            slots::board();
         } else {
             name();
         }

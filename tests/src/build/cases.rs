@@ -1,4 +1,4 @@
-//! What the program `cases` runs, each with a label: boards, lists and names.
+//! What the program `cases` runs, each with a label: boards, alone and with a table of slots, lists and names.
 
 use super::faults::{faults, with_faults};
 use super::order::{self, children_named};
@@ -9,6 +9,9 @@ use super::{cell, Board, Node};
 use crate::rng::Rng;
 
 pub type Case = (String, Board);
+
+/// A board with the entries of the table that is lent.
+pub type SlotCase = (String, Board, usize);
 
 /// A list of MPIDRs.
 pub struct List {
@@ -257,4 +260,35 @@ fn cpus_node_faults() -> [Case; 2] {
         case("W3 name and both cell counts of record 0", 64, &name),
         case("W3 both cell counts of record 0", 64, &cells),
     ]
+}
+
+/// Tables with the entries that are needed and more, one too few, and too many
+/// bits; then what is told before.
+pub fn slot_boards() -> Vec<SlotCase> {
+    let whole = worked::whole_case();
+    let lists: [(&str, &[u64], usize); 6] = [
+        ("W5 H1", &[0x0], 1),
+        ("W5 H4", &[0x2, 0x80], 130),
+        ("W5 H6", &[0x0, 0xFF_00FF_FFFF], 4),
+        ("W5 H7", &[0x0, 0x5], 9),
+        ("W5 12 bits and 100 entries", &[0x0, 0xFFF], 100),
+        ("W5 13 bits and no entry", &[0x0, 0x1FFF], 0),
+    ];
+    let mut cases: Vec<SlotCase> = (0..5)
+        .map(|entries| (format!("W5 whole case, {entries} entries"), &whole, entries))
+        .map(|(label, root, entries)| (label, Board::of(64, root), entries))
+        .collect();
+    for (label, mpidrs, entries) in lists {
+        cases.push((label.to_string(), Board::of(64, &cores(mpidrs)), entries));
+    }
+    let short = Board {
+        room: 23,
+        ..Board::of(64, &whole)
+    };
+    cases.push(("W5 rows and table too short".to_string(), short, 1));
+    let example_3 = Board::of(64, &worked::example_3());
+    cases.push(("W5 example 3, no entry".to_string(), example_3, 0));
+    let example_1 = Board::of(64, &worked::example_1());
+    cases.push(("W5 example 1".to_string(), example_1, 17));
+    cases
 }

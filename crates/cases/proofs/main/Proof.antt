@@ -30,6 +30,9 @@ board-requires c κs = search needs
 list-requires : tie.Need-list-requires Inv-loop μ-loop
 list-requires c κs = search needs
 
+board-requires-2 : tie.Need-board-requires-2 Inv-loop μ-loop
+board-requires-2 c κs = search needs
+
 name-requires : tie.Need-name-requires Inv-loop μ-loop
 name-requires c κs = search needs
 
@@ -58,6 +61,7 @@ main-spec =
     word-requires-2
     board-requires
     list-requires
+    board-requires-2
     name-requires
     sub-left
     loop-less
