@@ -219,7 +219,9 @@ const AT_THE_LIMIT: [(u32, u64); 9] = [
 /// 32 of H6 with no table.
 #[test]
 fn limit_of_bits() {
-    let mut rng = Rng::new(0x1213);
+    const SEED: u64 = 0x1213;
+    println!("lists of 11, 12 and 13 bits, seed {SEED:#x}");
+    let mut rng = Rng::new(SEED);
     for (bits, other) in AT_THE_LIMIT {
         let board = Board::of(64, &cores(&[0, other]));
         for entries in [0, 1, 2047, 2048, 4095, 4096, 4097, 8191, 8192, 8193, 65536] {

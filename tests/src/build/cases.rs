@@ -275,7 +275,13 @@ pub fn slot_boards() -> Vec<SlotCase> {
         ("W5 13 bits and no entry", &[0x0, 0x1FFF], 0),
     ];
     let mut cases: Vec<SlotCase> = (0..5)
-        .map(|entries| (format!("W5 whole case, {entries} entries"), &whole, entries))
+        .map(|entries| {
+            (
+                format!("W5 whole case, a table of {entries}"),
+                &whole,
+                entries,
+            )
+        })
         .map(|(label, root, entries)| (label, Board::of(64, root), entries))
         .collect();
     for (label, mpidrs, entries) in lists {

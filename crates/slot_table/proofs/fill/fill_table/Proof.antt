@@ -1,13 +1,13 @@
 -- `fill_table` fills the table of the rows where neither rule is broken. Assumes nothing.
-use mathlib.Core.Path.{_≡_, sym, _∙_}
-use Prim.Native.Nat.{_*_, _%_, _^_, _≤_}
+use mathlib.Core.Path.{_≡_, sym, ap, _∙_}
+use Prim.Native.Nat.{ℕ, _*_, _%_, _^_, _≤_}
 use native.Mathlib.Omega.{arith}
 use lib.ListN.{length}
 use borrow.Author.Tests.{eq-eqb, ne-eqb}
 use borrow.Author.Needs.{needs}
 use Rattle.laws.specs.facts.Limits.{maxTableBits}
 use Rattle.layout.specs.facts.Row.{slotAt}
-use Rattle.slot_table.specs.answers.Table.{entriesFault, filled}
+use Rattle.slot_table.specs.answers.Table.{entriesFault, blank, filled}
 use Rattle.slot_table.proofs.FaultLaws.{size-exact, entries-clear, entries-sound}
 use Rattle.slot_table.proofs.TableLaws.{slot-table}
 use Rattle.slot_table.proofs.fill.fill_table.Statement.{statement}
@@ -42,7 +42,7 @@ shl-size : tie.Need-shl-size
 shl-size c = omega (arith, fits c .0)
 
 mark-gaps-requires : tie.Need-mark-gaps-requires
-mark-gaps-requires c κs = rw (size-is (c .before)) (fits (c .before) .1)
+mark-gaps-requires c κs = omega (arith, size-is (c .before), fits (c .before) .1)
 
 enter-rows-requires : tie.Need-enter-rows-requires
 enter-rows-requires c κs =
@@ -59,7 +59,7 @@ returns-2 c =
     let marked = entered .before .before .before .before in
     let e = marked .before .before in
     let a = start e .args in
-    let blanked = rw (size-is e) at (marked .mark-gaps .ensures) in
+    let blanked = marked .mark-gaps .ensures ∙ ap (λ (n : ℕ). blank n (a .table .now)) (size-is e) in
     let is = rw (size-is e, blanked) at (entered .enter-rows .ensures) in
     (rw (eq-eqb _ 0 (clear e)) is, λ _ rows. rw is (slot-table (slotAt (a .rows .now)) _ _ (a .table .now) (fits e .1) rows))
 
