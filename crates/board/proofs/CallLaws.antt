@@ -13,7 +13,7 @@ use Rattle.rows.specs.answers.Write.{sourceOf}
 use Rattle.demands.specs.declared.BoardAnswer.{BoardAnswer}
 use Rattle.demands.specs.facts.Reading.{rowsIn, Demands}
 use Rattle.demands.specs.facts.Slots.{SlotTableDemands}
-use Rattle.demands.specs.answers.Answer.{boardFault, answerBy, rowsBy, answerOf, rowsAfter}
+use Rattle.demands.specs.answers.Answer.{boardFault, rowsBy, answerOf, rowsAfter}
 use Rattle.demands.specs.answers.Slots.{slotsFault, slotsAnswer, slotsRows, slotsTable}
 use Rattle.demands.proofs.AnswerLaws.{by-else}
 use Rattle.demands.proofs.Claim.{demands}
@@ -21,26 +21,32 @@ use Rattle.demands.proofs.BoundLaws.{slots-count}
 use Rattle.demands.proofs.SlotClaim.{slot-demands, whole}
 use Rattle.board.specs.declared.Asked.{Asked}
 use Rattle.board.specs.declared.Asked.the-variants.{Rows, Slots}
-use Rattle.board.specs.steps.Read.{readFault}
+use Rattle.board.proofs.ReadLaws.{Met}
+
+-- rows alone: nothing is told after rule 27
+pub rows-alone :
+    (b : Board) (before : List ℕ) (room : ℕ) {r : BoardAnswer} {after : List ℕ} →
+    Met b before room Rows r after →
+    (r ≡ answerOf b room) × (after ≡ rowsBy (boardFault b room) (sourceOf b) before)
+unfolding answerOf
+rows-alone b before room promised =
+    let same = by-else (boardFault b room) (cpuCount b) (mpidrList b) (told 0 0) (sourceOf b) before (λ _. refl) in
+    (promised .0 ∙ same .0, promised .1 ∙ same .1)
 
 module _ {b : Board} (sized : WordSized b) (before : List ℕ) where
   -- what `read` promises of an answer and the row buffer
   abbrev Read : Asked → BoardAnswer → List ℕ → Type 0
-  Read asked r after =
-      let f = readFault b (length before) asked in
-      (r ≡ answerBy f (cpuCount b) (mpidrList b)) × (after ≡ rowsBy f (sourceOf b) before)
+  Read asked r after = Met b before (length before) asked r after
 
-  -- rows alone: nothing is told after rule 27
   pub reads-tables :
       {r : BoardAnswer} {after : List ℕ} →
       Read Rows r after →
       (r ≡ answerOf b (length before)) × ((after ≡ rowsAfter b before) × Demands b before r after)
-  unfolding answerOf rowsAfter
+  unfolding rowsAfter
   reads-tables {r} {after} promised =
-      let same = by-else (boardFault b (length before)) (cpuCount b) (mpidrList b) (told 0 0) (sourceOf b) before (λ _. refl) in
-      let e : r ≡ answerOf b (length before) = promised .0 ∙ same .0 in
-      let g : after ≡ rowsAfter b before = promised .1 ∙ same .1 in
-      (e, (g, rw (e, g) (demands sized before)))
+      let alone = rows-alone b before (length before) promised in
+      let g : after ≡ rowsAfter b before = alone .1 in
+      (alone .0, (g, rw (alone .0, g) (demands sized before)))
 
   -- with a table
   module _ (table : List ℕ) {r : BoardAnswer} {rows : List ℕ} (promised : Read (Slots (length table)) r rows) where

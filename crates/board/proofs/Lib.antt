@@ -1,5 +1,6 @@
 -- Laws about the parts of the reading calls.
 pub mod FrontLaws
 pub mod ReadLaws
+pub mod JoinLaws
 pub mod CallLaws
 pub mod SurveyLaws

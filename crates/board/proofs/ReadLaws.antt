@@ -49,9 +49,9 @@ module _ (b : Board) where
   unfolding surveyOf
   survey-counts z = rw (eq-eqb (surveyFault b .number) 0 z) (refl, refl)
 
-  survey-stopped : (surveyFault b .number ≡ 0 → ⊥) → surveyOf b .cpus ≡ 0
+  survey-stopped : (surveyFault b .number ≡ 0 → ⊥) → (surveyOf b .cpus ≡ 0) × (surveyOf b .leaves ≡ 0)
   unfolding surveyOf
-  survey-stopped ne = rw (ne-eqb (surveyFault b .number) 0 ne)
+  survey-stopped ne = rw (ne-eqb (surveyFault b .number) 0 ne) (refl, refl)
 
 module _ (b : Board) {s : Surveyed} (found : s ≡ surveyOf b) where
   fault-is : s .fault ≡ surveyFault b
@@ -61,14 +61,9 @@ module _ (b : Board) {s : Surveyed} (found : s ≡ surveyOf b) where
   pub counts : surveyFault b .number ≡ 0 → (s .cpus ≡ cpuCount b) × (s .leaves ≡ length (leavesOf b))
   counts none = (ap (λ (r : Surveyed). r .cpus) found ∙ survey-counts b none .0, ap (λ (r : Surveyed). r .leaves) found ∙ survey-counts b none .1)
 
-  pub cpus-fit : {most : ℕ} → (surveyFault b .number ≡ 0 → s .cpus ≤ most) → s .cpus ≤ most
-  cpus-fit {most} listed = go (eqb (surveyFault b .number) 0) refl
-    where
-      go : (t : Bool) → eqb (surveyFault b .number) 0 ≡ t → s .cpus ≤ most
-      go true e = listed (eqb-true (surveyFault b .number) 0 e)
-      go false e =
-          let stop = survey-stopped b (eqb-false (surveyFault b .number) 0 e) in
-          omega (arith, ap (λ (r : Surveyed). r .cpus) found ∙ stop)
+  pub stops : (surveyFault b .number ≡ 0 → ⊥) → (s .cpus ≡ 0) × (s .leaves ≡ 0)
+  stops ne =
+      (ap (λ (r : Surveyed). r .cpus) found ∙ survey-stopped b ne .0, ap (λ (r : Surveyed). r .leaves) found ∙ survey-stopped b ne .1)
 
   -- what the code tells is what is told of the board; the bits matter only where the survey tells nothing
   pub rooms-is :
@@ -92,18 +87,18 @@ module _ (b : Board) {s : Surveyed} (found : s ≡ surveyOf b) where
           let ne = eqb-false (surveyFault b .number) 0 e in
           or-first (surveyFault b) _ ne ∙ sym (or-first (surveyFault b) last ne)
 
--- what `read` promises
-module _ (b : Board) (before : List ℕ) (asked : Asked) where
+-- what is owed for a row buffer, of which so many words count
+module _ (b : Board) (before : List ℕ) (room : ℕ) (asked : Asked) where
   abbrev wanted : Fault
-  wanted = readFault b (length before) asked
+  wanted = readFault b room asked
 
-  abbrev Met : BoardAnswer → List ℕ → Type 0
+  abbrev pub Met : BoardAnswer → List ℕ → Type 0
   Met r after = (r ≡ answerBy wanted (cpuCount b) (mpidrList b)) × (after ≡ rowsBy wanted (sourceOf b) before)
 
   pub survey-clear : {f : Fault} → f ≡ wanted → f .number ≡ 0 → surveyFault b .number ≡ 0
   unfolding boardFault
   survey-clear e z =
-      or-clear (surveyFault b) _ (or-clear (boardFault b (length before)) _ (ap (λ (g : Fault). g .number) (sym e) ∙ z) .0) .0
+      or-clear (surveyFault b) _ (or-clear (boardFault b room) _ (ap (λ (g : Fault). g .number) (sym e) ∙ z) .0) .0
 
   pub refuses : {r : BoardAnswer} {f : Fault} → f ≡ wanted → (f .number ≡ 0 → ⊥) → r ≡ refusedWith f → Met r before
   refuses {r} {f} e ne is = rw (← e, ne-eqb (f .number) 0 ne) (is, refl)

@@ -1,8 +1,11 @@
 // The board reader: a board's tables in, rows and save slots out, or the first rule broken, where, and of which property.
+mod in_place;
 mod read;
 mod survey;
 
+use affinity::Hash;
 use demands::BoardAnswer;
+pub use in_place::read_in_place;
 use laws::Fault;
 use layout::ROW_WORDS;
 use read::read;
@@ -19,6 +22,13 @@ struct Surveyed {
     pub fault: Fault,
     pub cpus: usize,
     pub leaves: usize,
+}
+
+// What is told of a surveyed board and of the room lent for its rows, the count of its cpu records and the hash of their MPIDRs.
+struct Checked {
+    pub fault: Fault,
+    pub count: usize,
+    pub hash: Hash,
 }
 
 // What is asked for: the rows alone, or a table of slots, too, for which so many entries are lent.

@@ -1,5 +1,6 @@
 // Check, room, write: what both calls have in common.
 use crate::Asked;
+use crate::Checked;
 use crate::Surveyed;
 use crate::survey::survey;
 use affinity::Hash;
@@ -13,9 +14,9 @@ ghost use mathlib.Core.Path.{_≡_};
 ghost use lib.ListN.{length};
 ghost use Rattle.tables.specs.facts.Board.{board};
 ghost use Rattle.cpus.specs.answers.Check.{cpuCount, mpidrList};
-ghost use Rattle.rows.specs.answers.Write.{sourceOf};
+ghost use Rattle.rows.specs.answers.Write.{source, sourceOf};
 ghost use Rattle.demands.specs.answers.Answer.{refusedWith, answerBy, rowsBy};
-ghost use Rattle.board.specs.steps.Read.{tableFault, roomsFault, readFault};
+ghost use Rattle.board.specs.steps.Read.{tableFault, roomsFault, readFault, checkedOf, answerFrom};
 
 fn refused(fault: Fault) -> BoardAnswer
     ensures { λ r. ⌜ r ≡ refusedWith fault ⌝ }
@@ -62,6 +63,50 @@ fn rooms_fault(found: Surveyed, room: usize, asked: Asked, bits: u32) -> Fault
     }
 }
 
+// What is told of a surveyed board with these MPIDRs and of a room of so many words, and their hash.
+pub fn check_rooms(found: Surveyed, mpidrs: &[u64], room: usize, asked: Asked) -> Checked
+    ensures { λ r. ⌜ r ≡ checkedOf found (now (mpidrs .entry)) room asked ⌝ }
+{
+    let hash = affinity::hash_of_mask(affinity::mask_of(mpidrs));
+    Checked {
+        fault: rooms_fault(found, room, asked, hash.bits),
+        count: found.cpus,
+        hash,
+    }
+}
+
+// Writes the rows where no rule is broken, and gives the answer.
+pub fn write(
+    rows: &mut [u32],
+    nodes: &[u32],
+    pool: &[u8],
+    cpus: &[u16],
+    mpidrs: &[u64],
+    leaves: &[u16],
+    named: &[u16],
+    checked: Checked,
+) -> BoardAnswer
+    ensures answer { λ r. ⌜ r ≡ answerFrom checked ⌝ }
+    ensures rows { λ _.
+        let s = source (now (nodes .entry)) (now (pool .entry)) (now (cpus .entry)) (now (mpidrs .entry))
+        (now (leaves .entry)) (now (named .entry)) (checked .hash) in
+        ⌜ now (rows .exit) ≡ rowsBy (checked .fault) s (now (rows .entry)) ⌝ }
+{
+    let fault = checked.fault;
+    if fault.number != 0 {
+        return refused(fault);
+    }
+    let hash = checked.hash;
+    rows::write_rows(rows, nodes, pool, cpus, mpidrs, leaves, named, hash);
+    BoardAnswer {
+        number: 0,
+        place: 0,
+        second: NO_PROPERTY,
+        count: checked.count,
+        hash,
+    }
+}
+
 // Reads a board's tables: the rows are written where no rule is broken.
 pub fn read(
     width: u32,
@@ -95,12 +140,8 @@ pub fn read(
     let count = found.cpus;
     let leaf_count = found.leaves;
     let listed = &mpidrs[..count];
-    let hash = affinity::hash_of_mask(affinity::mask_of(listed));
-    let fault = rooms_fault(found, rows.len(), asked, hash.bits);
-    if fault.number != 0 {
-        return refused(fault);
-    }
-    rows::write_rows(
+    let checked = check_rooms(found, listed, rows.len(), asked);
+    write(
         rows,
         nodes,
         pool,
@@ -108,13 +149,6 @@ pub fn read(
         listed,
         &leaves[..leaf_count],
         &named[..leaf_count],
-        hash,
-    );
-    BoardAnswer {
-        number: 0,
-        place: 0,
-        second: NO_PROPERTY,
-        count,
-        hash,
-    }
+        checked,
+    )
 }

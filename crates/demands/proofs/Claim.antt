@@ -138,6 +138,10 @@ module _ {b : Board} (sized : WordSized b) (before : List ℕ) where
   pub none : number ≡ 0 → (n p : ℕ) → Breaks b (length before) n p → ⊥
   none = tells-none (λ n p. breaks-staged) (board-tells sized (length before))
 
+  -- as many rows as cpu records, and room for them
+  pub rows-many : number ≡ 0 → (leafCount b ≡ cpuCount b) × (rowSize * cpuCount b ≤ length before)
+  rows-many z = (same sized before (none z), room sized before (none z))
+
   acceptance : number ≡ 0 → Accepted b before answer buffer
   unfolding answerOf rowsAfter
   acceptance z = rw (eq-eqb number 0 z) (rows-accepted sized before (none z))

@@ -65,6 +65,8 @@ module _ (blob nodes props : List ℕ) where
     pub reading : BlobReading blob nodes props answer (filledOver answer (filledIn b .nodes) nodes) (filledOver answer (filledIn b .props) props)
     pub node-fits : answer .number ≡ 0 → length (filledIn b .nodes) ≤ node-room
     pub prop-fits : answer .number ≡ 0 → length (filledIn b .props) ≤ prop-room
+    pub nodes-counted : answer .number ≡ 0 → 3 * answer .nodes ≡ length (filledIn b .nodes)
+    pub props-counted : answer .number ≡ 0 → 5 * answer .props ≡ length (filledIn b .props)
 
   -- a refusal
   claim-refused : (n p : ℕ) → 31 ≤ n → BlobTold blob node-room prop-room n p → Claimed (blobRefused n p)
@@ -79,6 +81,8 @@ module _ (blob nodes props : List ℕ) where
             };
         node-fits = λ e. absurd (omega arith);
         prop-fits = λ e. absurd (omega arith);
+        nodes-counted = λ e. absurd (omega arith);
+        props-counted = λ e. absurd (omega arith);
       }
 
   abbrev accepted : Walk → BlobAnswer
@@ -202,6 +206,8 @@ module _ (blob nodes props : List ℕ) where
                     };
                 node-fits = λ _. rw (is-walk, j .0) node-fits;
                 prop-fits = λ _. rw (is-walk, j .1) prop-fits;
+                nodes-counted = λ _. rw (is-walk, j .0) (j .2);
+                props-counted = λ _. rw (is-walk, j .1) (j .3);
               }
 
           claim-one : Claimed (spaceAnswer w)
@@ -264,3 +270,9 @@ module _ (blob nodes props : List ℕ) where
   pub room :
       blobAnswer blob node-room prop-room .number ≡ 0 → (length (filledIn b .nodes) ≤ node-room) × (length (filledIn b .props) ≤ prop-room)
   room z = (claim-blob .node-fits z, claim-blob .prop-fits z)
+
+  -- how many words there are of each
+  pub counted :
+      let answer = blobAnswer blob node-room prop-room in
+      answer .number ≡ 0 → (3 * answer .nodes ≡ length (filledIn b .nodes)) × (5 * answer .props ≡ length (filledIn b .props))
+  counted z = (claim-blob .nodes-counted z, claim-blob .props-counted z)

@@ -1,0 +1,122 @@
+-- A survey, the checks behind it and the writing, joined: what they come to for the board. Assumes nothing.
+use mathlib.Core.Path.{_≡_, refl, sym, ap, _∙_}
+use mathlib.Core.Bool.{Bool, true, false}
+use mathlib.Core.List.{List}
+use Prim.Native.Nat.{ℕ, _≤_}
+use native.Mathlib.Omega.{arith}
+use lib.Dec.{eqb}
+use lib.ListN.{length, take, replicate, length-map, length-replicate}
+use borrow.Author.Tests.{eqb-true, eqb-false}
+use Rattle.affinity.specs.answers.Hash.{hashOf}
+use Rattle.tables.specs.facts.Board.{Board}
+use Rattle.cpus.specs.answers.Check.{cpuCount, cpuList, mpidrList}
+use Rattle.cpus.proofs.CpuMeans.{cpu-count}
+use Rattle.leaves.specs.answers.Scan.{leavesOf, namedOf}
+use Rattle.rows.specs.answers.Write.{Source, source}
+use Rattle.demands.specs.declared.BoardAnswer.{BoardAnswer}
+use Rattle.demands.specs.answers.Survey.{surveyFault}
+use Rattle.demands.specs.answers.Answer.{rowsBy}
+use Rattle.board.specs.declared.Surveyed.{Surveyed}
+use Rattle.board.specs.declared.Checked.{Checked}
+use Rattle.board.specs.declared.Asked.{Asked}
+use Rattle.board.specs.steps.Survey.{surveyOf, Lists}
+use Rattle.board.specs.steps.Read.{readFault, checkedOf, answerFrom}
+use Rattle.board.proofs.FrontLaws.{front-fits, front-is}
+use Rattle.board.proofs.ReadLaws.{counts, stops, rooms-is, survey-clear, refuses, accepts, Met}
+use Rattle.board.proofs.SurveyLaws.{survey-few}
+
+-- the arrays before a survey
+abbrev pub zeros : List ℕ
+zeros = replicate 256 0
+
+module _
+    {b : Board} {s : Surveyed} {cpus mpidrs leaves named : List ℕ} (found : s ≡ surveyOf b)
+    (listed : surveyFault b .number ≡ 0 → Lists b zeros zeros zeros zeros cpus mpidrs leaves named) where
+  -- a survey that told nothing: the counts, and the lists at the front of the arrays
+  module _ (clear : surveyFault b .number ≡ 0) where
+    abbrev lists : Lists b zeros zeros zeros zeros cpus mpidrs leaves named
+    lists = listed clear
+
+    cpus-are : s .cpus ≡ cpuCount b
+    cpus-are = counts b found clear .0
+
+    cpu-size : s .cpus ≡ length (cpuList b)
+    cpu-size = cpus-are ∙ cpu-count b
+
+    mpidr-size : s .cpus ≡ length (mpidrList b)
+    mpidr-size = cpu-size ∙ sym (length-map (cpuList b) _)
+
+    leaf-size : s .leaves ≡ length (leavesOf b)
+    leaf-size = counts b found clear .1
+
+    named-size : s .leaves ≡ length (namedOf b)
+    named-size = leaf-size ∙ sym (length-map (leavesOf b) _)
+
+    few : length (cpuList b) ≤ length zeros
+    few = omega (arith, survey-few b clear .0, cpu-count b, length-replicate {A = ℕ} 256 0)
+
+    few-mpidrs : length (mpidrList b) ≤ length zeros
+    few-mpidrs = omega (arith, few, cpu-size, mpidr-size)
+
+    few-leaves : length (leavesOf b) ≤ length zeros
+    few-leaves = omega (arith, survey-few b clear, length-replicate {A = ℕ} 256 0)
+
+    few-named : length (namedOf b) ≤ length zeros
+    few-named = omega (arith, few-leaves, leaf-size, named-size)
+
+    mpidrs-front : take (s .cpus) mpidrs ≡ mpidrList b
+    mpidrs-front = front-is _ _ (lists .mpidrs-laid) mpidr-size few-mpidrs
+
+  -- the counts lie within the arrays: no more than they hold, or none where the survey stopped
+  pub cpus-within : (s .cpus ≤ length cpus) × (s .cpus ≤ length mpidrs)
+  cpus-within = go (eqb (surveyFault b .number) 0) refl
+    where
+      go : (t : Bool) → eqb (surveyFault b .number) 0 ≡ t → (s .cpus ≤ length cpus) × (s .cpus ≤ length mpidrs)
+      go true e =
+          let z = eqb-true (surveyFault b .number) 0 e in
+          (front-fits _ _ (lists z .cpus-laid) (cpu-size z) (few z), front-fits _ _ (lists z .mpidrs-laid) (mpidr-size z) (few-mpidrs z))
+      go false e =
+          let none = stops b found (eqb-false (surveyFault b .number) 0 e) .0 in
+          (omega (arith, none), omega (arith, none))
+
+  pub leaves-within : (s .leaves ≤ length leaves) × (s .leaves ≤ length named)
+  leaves-within = go (eqb (surveyFault b .number) 0) refl
+    where
+      go : (t : Bool) → eqb (surveyFault b .number) 0 ≡ t → (s .leaves ≤ length leaves) × (s .leaves ≤ length named)
+      go true e =
+          let z = eqb-true (surveyFault b .number) 0 e in
+          (front-fits _ _ (lists z .leaves-laid) (leaf-size z) (few-leaves z), front-fits _ _ (lists z .named-laid) (named-size z) (few-named z))
+      go false e =
+          let none = stops b found (eqb-false (surveyFault b .number) 0 e) .1 in
+          (omega (arith, none), omega (arith, none))
+
+  -- what was checked of a room of so many words
+  module _ (room : ℕ) (asked : Asked) {c : Checked} (checked : c ≡ checkedOf s (take (s .cpus) mpidrs) room asked) where
+    told-is : c .fault ≡ readFault b room asked
+    told-is = ap (λ (k : Checked). k .fault) checked ∙ rooms-is b found room asked (λ z. ap (λ (l : List ℕ). hashOf l .bits) (mpidrs-front z))
+
+    abbrev made : Source
+    made =
+        source (b .nodes) (b .pool) (take (s .cpus) cpus) (take (s .cpus) mpidrs) (take (s .leaves) leaves) (take (s .leaves) named) (c .hash)
+
+    pub met :
+        (before : List ℕ) {r : BoardAnswer} {after : List ℕ} →
+        (r ≡ answerFrom c) × (after ≡ rowsBy (c .fault) made before) →
+        Met b before room asked r after
+    met before {r} {after} promised = go (eqb (c .fault .number) 0) refl
+      where
+        go : (t : Bool) → eqb (c .fault .number) 0 ≡ t → Met b before room asked r after
+        go true e =
+            let z = eqb-true (c .fault .number) 0 e in
+            let clear = survey-clear b before room asked told-is z in
+            rw (rw e at (promised .0))
+            (accepts b before room asked told-is z (ap (λ (k : Checked). k .count) checked ∙ cpus-are clear)
+            (ap (λ (k : Checked). k .hash) checked ∙ ap hashOf (mpidrs-front clear))
+            (front-is _ _ (lists clear .cpus-laid) (cpu-size clear) (few clear))
+            (mpidrs-front clear)
+            (front-is _ _ (lists clear .leaves-laid) (leaf-size clear) (few-leaves clear))
+            (front-is _ _ (lists clear .named-laid) (named-size clear) (few-named clear))
+            (rw e at (promised .1)))
+        go false e =
+            let ne = eqb-false (c .fault .number) 0 e in
+            rw (rw e at (promised .1)) (refuses b before room asked told-is ne (rw e at (promised .0)))

@@ -1,0 +1,116 @@
+-- `read_in_place` surveys by the front of the table, checks the rooms, and writes over it. Assumes nothing.
+use mathlib.Core.Path.{_≡_, sym, ap, _∙_}
+use mathlib.Core.List.{List}
+use Prim.Native.Nat.{ℕ, _≤_, min}
+use native.Mathlib.Omega.{arith}
+use lib.ListN.{length, take}
+use lib.Seq.{length-take-le}
+use Rattle.laws.proofs.CutLaws.{cut-size, cut-same}
+use Rattle.tables.specs.facts.Board.{Board, board}
+use Rattle.board.specs.declared.Asked.the-variants.{Rows}
+use Rattle.board.proofs.ReadLaws.{Met}
+use Rattle.board.proofs.JoinLaws.{cpus-within, leaves-within, met}
+use Rattle.board.proofs.CallLaws.{rows-alone}
+use borrow.Author.Needs.{needs}
+use Rattle.board.proofs.in_place.read_in_place.Statement.{statement}
+use Rattle.board.proofs.in_place.read_in_place.Tie as tie
+
+-- what the survey listed lies within the arrays
+cpus-in :
+    (c : tie.After-survey) →
+    let n = c .survey .result .cpus in
+    let last = c .survey .last .1 .1 .1 .1 in
+    (n ≤ length (last .0)) × (n ≤ length (last .1 .0))
+cpus-in c = cpus-within (c .survey .ensures .0) (c .survey .ensures .1)
+
+leaves-in :
+    (c : tie.After-survey) →
+    let n = c .survey .result .leaves in
+    let last = c .survey .last .1 .1 .1 .1 .1 .1 in
+    (n ≤ length (last .0)) × (n ≤ length (last .1 .0))
+leaves-in c = leaves-within (c .survey .ensures .0) (c .survey .ensures .1)
+
+at-most-requires : tie.Need-at-most-requires
+at-most-requires c κs = search needs
+
+slice-reshare-prefix-survey : tie.Need-slice-reshare-prefix-survey
+slice-reshare-prefix-survey c = omega (arith, c .at-most .ensures)
+
+slice-aggregate-survey : tie.Need-slice-aggregate-survey
+slice-aggregate-survey c = cut-size (c .before .before .before .before .before .args .table .now) _ (c .before .at-most .ensures)
+
+survey-requires : tie.Need-survey-requires
+survey-requires c κs = search needs
+
+array-share-prefix-mpidrs : tie.Need-array-share-prefix-mpidrs
+array-share-prefix-mpidrs c = cpus-in c .1
+
+slice-aggregate-listed : tie.Need-slice-aggregate-listed
+slice-aggregate-listed c = sym (length-take-le _ _ (cpus-in (c .before) .1))
+
+at-most-requires-2 : tie.Need-at-most-requires-2
+at-most-requires-2 c κs = search needs
+
+check-rooms-requires : tie.Need-check-rooms-requires
+check-rooms-requires c κs = search needs
+
+array-share-prefix-cpus : tie.Need-array-share-prefix-cpus
+array-share-prefix-cpus c = cpus-in (c .before .before .before .before) .0
+
+slice-aggregate-write : tie.Need-slice-aggregate-write
+slice-aggregate-write c = sym (length-take-le _ _ (cpus-in (c .before .before .before .before .before) .0))
+
+array-share-prefix-leaves : tie.Need-array-share-prefix-leaves
+array-share-prefix-leaves c = leaves-in (c .before .before .before .before .before) .0
+
+slice-aggregate-write-2 : tie.Need-slice-aggregate-write-2
+slice-aggregate-write-2 c = sym (length-take-le _ _ (leaves-in (c .before .before .before .before .before .before) .0))
+
+array-share-prefix-named : tie.Need-array-share-prefix-named
+array-share-prefix-named c = leaves-in (c .before .before .before .before .before .before) .1
+
+slice-aggregate-write-3 : tie.Need-slice-aggregate-write-3
+slice-aggregate-write-3 c = sym (length-take-le _ _ (leaves-in (c .before .before .before .before .before .before .before) .1))
+
+write-requires : tie.Need-write-requires
+write-requires c κs = search needs
+
+same-length : tie.Need-same-length
+same-length c = search needs
+
+returns : tie.Need-returns
+returns c =
+    let wrote = c .before .before in
+    let checked = wrote .before .before .before .before .before in
+    let room = checked .before in
+    let call = room .before .before in
+    let held = call .before .before .before .before .before .before in
+    let a = held .before .before .before .before .args in
+    let b = board (a .width) (a .nodes .now) (take (held .at-most .result) (a .table .now)) (a .pool .now) in
+    let promised =
+    met {b = b} (call .survey .ensures .0) (call .survey .ensures .1) (room .at-most2 .result) Rows (checked .check-rooms .ensures)
+    (a .table .now) (wrote .write .ensures) in
+    rw (← cut-same (a .table .now) (a .words) (held .at-most .ensures), ← room .at-most2 .ensures)
+    (rows-alone b (a .table .now) (room .at-most2 .result) promised)
+
+pub read-in-place-spec : {M : Type 1} → statement M
+read-in-place-spec =
+    tie.close
+    (tie.spec
+    at-most-requires
+    slice-reshare-prefix-survey
+    slice-aggregate-survey
+    survey-requires
+    array-share-prefix-mpidrs
+    slice-aggregate-listed
+    at-most-requires-2
+    check-rooms-requires
+    array-share-prefix-cpus
+    slice-aggregate-write
+    array-share-prefix-leaves
+    slice-aggregate-write-2
+    array-share-prefix-named
+    slice-aggregate-write-3
+    write-requires
+    same-length
+    returns)

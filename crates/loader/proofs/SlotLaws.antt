@@ -1,0 +1,86 @@
+-- The slot of an MPIDR in a list of bytes: what is demanded of its answer, by what is demanded of the list's. Assumes nothing.
+use mathlib.Core.Path.{_≡_, refl, sym, ap, _∙_}
+use mathlib.Core.Bool.{Bool, true, false}
+use mathlib.Core.List.{List}
+use Prim.Native.Nat.{ℕ, _%_, _/_, _≤_, _<_}
+use native.Mathlib.Omega.{arith}
+use lib.Dec.{eqb}
+use lib.ListN.{length}
+use borrow.Author.Tests.{eq-eqb, ne-eqb, lt-ltb}
+use Rattle.laws.specs.facts.Limits.{maxCpus}
+use Rattle.laws.specs.facts.First.{Before, First}
+use Rattle.wire.specs.facts.Bytes.{numberSize, numbersIn}
+use Rattle.wire.proofs.ByteLaws.{numbers-length}
+use Rattle.affinity.specs.declared.ListSlot.{ListSlot}
+use Rattle.affinity.specs.facts.List.{listStage, ListRule, SlotRule, SlotDemands}
+use Rattle.affinity.specs.answers.List.{firstOutside, listFault, slotAnswer}
+use Rattle.affinity.proofs.ListMeans.{slot-meets}
+use Rattle.loader.specs.facts.List.{ByteSlotRule, ByteSlotDemands}
+use Rattle.loader.specs.answers.List.{byteSlot}
+
+module _ (bytes : List ℕ) (mpidr : ℕ) where
+  abbrev list : List ℕ
+  list = numbersIn bytes
+
+  abbrev Owed : ListSlot → Type 0
+  Owed r = (r ≡ byteSlot mpidr bytes) × ByteSlotDemands bytes mpidr r
+
+  -- no rule has a smaller number than 28
+  from-28 : {n p : ℕ} → ByteSlotRule bytes mpidr n p → 28 ≤ n
+  from-28 (ByteSlotRule.listLengthPart ne) = omega arith
+  from-28 (ByteSlotRule.ofNumbers (SlotRule.ofList (ListRule.listLengthEmpty e))) = omega arith
+  from-28 (ByteSlotRule.ofNumbers (SlotRule.ofList (ListRule.listLengthMany lt))) = omega arith
+  from-28 (ByteSlotRule.ofNumbers (SlotRule.ofList (ListRule.listMpidr i lt outside))) = omega arith
+  from-28 (ByteSlotRule.ofNumbers (SlotRule.listUnknown missing)) = omega arith
+
+  none-before-28 : {n p : ℕ} → 28 ≤ n → Before listStage n p 28 0 → ⊥
+  none-before-28 le (Before.earlierStage h) = omega arith
+  none-before-28 le (Before.lowerPlace s h) = omega arith
+  none-before-28 le (Before.smallerNumber s e h) = omega arith
+
+  -- bytes that end inside an MPIDR
+  pub cut : (length bytes % numberSize ≡ 0 → ⊥) → Owed (record { number = 28; place = 0; slot = 0 })
+  unfolding byteSlot
+  cut ne = (
+    rw (ne-eqb (length bytes % numberSize) 0 ne),
+    record {
+      refused = λ _. record {
+        first = record { broken = ByteSlotRule.listLengthPart ne; none-before = λ n p rule. none-before-28 (from-28 rule) };
+        slot = refl;
+      };
+      sound = λ z. absurd (omega arith);
+    },
+  )
+
+  -- whole MPIDRs: what is demanded of their list
+  module _ (whole : length bytes % numberSize ≡ 0) where
+    of-list : {n p : ℕ} → ByteSlotRule bytes mpidr n p → SlotRule list mpidr n p
+    of-list (ByteSlotRule.listLengthPart ne) = absurd (ne whole)
+    of-list (ByteSlotRule.ofNumbers rule) = rule
+
+    pub listed : {r : ListSlot} → r ≡ slotAnswer mpidr list → Owed r
+    unfolding byteSlot
+    listed {r} e =
+        let d : SlotDemands list mpidr r = slot-meets list mpidr e .1 in (
+          rw (eq-eqb (length bytes % numberSize) 0 whole) e,
+          record {
+            refused = λ ne.
+                let told = d .refused ne in
+                record {
+                  first =
+                      record {
+                        broken = ByteSlotRule.ofNumbers (told .first .broken);
+                        none-before = λ n p rule. told .first .none-before n p (of-list rule);
+                      };
+                  slot = told .slot;
+                };
+            sound = λ z. record { whole = whole; of-list = d .sound z };
+          },
+        )
+
+    -- too many of them
+    pub long : maxCpus < length bytes / numberSize → Owed (record { number = 28; place = 0; slot = 0 })
+    unfolding slotAnswer listFault
+    long many =
+        let more : maxCpus < length list = omega (arith, numbers-length bytes) in
+        listed (rw (ne-eqb (length list) 0 (λ e. omega arith), lt-ltb maxCpus (length list) more))

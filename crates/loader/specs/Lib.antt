@@ -1,0 +1,3 @@
+-- What the contracts of `loader` cite: the calls of a loader, on bytes.
+pub mod facts
+pub mod answers

@@ -1,0 +1,3 @@
+-- What has to be believed: each is a fact of the papers or a word that such facts use.
+pub mod Image
+pub mod List

@@ -1,0 +1,4 @@
+-- Laws that belong to no one function.
+pub mod ByteLaws
+pub mod PutLaws
+pub mod ReadLaws

@@ -1,0 +1,3 @@
+-- What the contracts of `wire` cite: numbers in bytes, lowest byte first.
+pub mod facts
+pub mod answers

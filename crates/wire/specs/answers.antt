@@ -1,0 +1,2 @@
+-- What public contracts equate their results with.
+pub mod Put

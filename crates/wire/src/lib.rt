@@ -1,0 +1,12 @@
+// Numbers in bytes, lowest byte first: words written, and numbers read.
+mod put;
+mod read;
+
+pub use put::put_words;
+pub use read::read_numbers;
+
+// The bytes of a word of 32 bits.
+pub const WORD_BYTES: usize = 4;
+
+// The bytes of a number of 64 bits.
+pub const NUMBER_BYTES: usize = 8;
