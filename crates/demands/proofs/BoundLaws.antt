@@ -24,6 +24,7 @@ use Rattle.cpus.proofs.CpuTells.{cpus-place, phandles-place}
 use Rattle.cpumap.specs.answers.Find.{mapOf, mapFault, noMapFault, secondMapFault}
 use Rattle.leaves.specs.answers.Scan.{leavesFault, treeOf}
 use Rattle.leaves.proofs.TreeTells.{leaves-place}
+use Rattle.demands.specs.facts.Words.{Words}
 use Rattle.demands.specs.answers.Survey.{surveyFault}
 use Rattle.demands.specs.declared.BoardAnswer.{BoardAnswer}
 use Rattle.demands.specs.answers.Answer.{boardFault, roomFault, answerBy, answerOf}
@@ -124,3 +125,20 @@ module _ (b : Board) (room entries : ℕ) where
   pub slots-count : slotsAnswer b room entries .count ≤ 256
   unfolding slotsAnswer slotsFault
   slots-count = by-count (slotsFault b room entries) (cpuCount b) (mpidrList b) (λ z. cpus-few b room (or-clear (boardFault b room) _ z .0))
+
+-- so the numbers of both reading calls are words
+pub board-words : (b : Board) (room : ℕ) → Words (answerOf b room)
+board-words b room =
+    record {
+      place = omega (arith, answer-place b room);
+      second = omega (arith, answer-second b room);
+      count = omega (arith, answer-count b room);
+    }
+
+pub slots-words : (b : Board) (room entries : ℕ) → Words (slotsAnswer b room entries)
+slots-words b room entries =
+    record {
+      place = omega (arith, slots-place b room entries);
+      second = omega (arith, slots-second-word b room entries);
+      count = omega (arith, slots-count b room entries);
+    }

@@ -2,3 +2,4 @@
 pub mod Reading
 pub mod Slots
 pub mod Rules
+pub mod Words

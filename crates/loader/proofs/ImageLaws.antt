@@ -1,7 +1,7 @@
 -- What the call on a blob owes, by what its two parts promise: the reading of the blob, and that of the board. Assumes nothing.
 use mathlib.Core.Path.{_≡_, refl, sym, ap, ap₂, _∙_}
 use mathlib.Core.List.{List, _++_}
-use Prim.Native.Nat.{ℕ, _*_, _/_, _≤_}
+use Prim.Native.Nat.{ℕ, _*_, _/_, _^_, _≤_, _<_}
 use native.Mathlib.Omega.{arith}
 use lib.ListN.{length, getD, take, drop}
 use lib.Seq.{take-at}
@@ -23,8 +23,10 @@ use Rattle.flat.specs.facts.Tables.{boardOf}
 use Rattle.flat.specs.answers.Answer.{blobAnswer, filledIn, nodesAfter, propsAfter}
 use Rattle.flat.proofs.Claim.{room, counted}
 use Rattle.demands.specs.declared.BoardAnswer.{BoardAnswer}
+use Rattle.demands.specs.facts.Words.{Words}
 use Rattle.demands.specs.facts.Reading.{Demands}
 use Rattle.demands.specs.answers.Answer.{refusedWith, boardFault, answerOf}
+use Rattle.demands.proofs.BoundLaws.{board-words}
 use Rattle.loader.specs.facts.Image.{nodeRoom, propRoom, ReadBoard, ImageDemands}
 use Rattle.loader.specs.answers.Image.{blobFound, boardIn, rowBytes, imageAnswer, imageRows}
 use Rattle.loader.proofs.RowLaws.{Bytes, bytes-rest, bytes-size, bytes-kept}
@@ -47,7 +49,8 @@ module _
 
   abbrev Owed : BoardAnswer → List ℕ → Type 0
   Owed r after =
-      (r ≡ imageAnswer width blob (length before)) × ((after ≡ imageRows width blob before) × ImageDemands width blob before r after)
+      (r ≡ imageAnswer width blob (length before))
+      × ((after ≡ imageRows width blob before) × (Words r × ImageDemands width blob before r after))
 
   -- the rules for tables of these sizes
   sized-told : {n p : ℕ} → BlobTold blob nodeRoom propRoom n p → BlobTold blob (length nodes) (length props) n p
@@ -61,22 +64,25 @@ module _
     refusal : {n p : ℕ} → BlobTold blob nodeRoom propRoom n p → (n ≡ found .number) × (p ≡ found .place)
     refusal {n} {p} told = first-unique (stageIn blobStages) (BlobRule blob (length nodes) (length props)) n p (found .number) (found .place) (sized-told told) (reading .refused ne .first)
 
-    pub refuses : {r : BoardAnswer} → r ≡ refusedWith (plain (found .number) (found .place)) → Owed r before
+    pub refuses : {r : BoardAnswer} → found .place < 2 ^ 32 → r ≡ refusedWith (plain (found .number) (found .place)) → Owed r before
     unfolding imageAnswer imageRows
-    refuses {r} e =
+    refuses {r} word e =
         let shut = ne-eqb (blobFound blob .number) 0 (λ z. ne (number-is ∙ z)) in (
           rw (shut, ← found-is) e,
           (
             rw shut,
-            rw e (record {
-              refused = λ n p told.
-                  let same = refusal told in
-                  record { number = sym (same .0); place = sym (same .1); second = refl; count = refl; hash = refl };
-              read = λ none. absurd (ne (reading .exactly .1 (λ n p rule. none n p (sized-rule rule))));
-              untouched = λ _. refl;
-              rest = refl;
-              size = refl;
-            }),
+            (
+              rw e (record { place = word; second = omega arith; count = omega arith }),
+              rw e (record {
+                refused = λ n p told.
+                    let same = refusal told in
+                    record { number = sym (same .0); place = sym (same .1); second = refl; count = refl; hash = refl };
+                read = λ none. absurd (ne (reading .exactly .1 (λ n p rule. none n p (sized-rule rule))));
+                untouched = λ _. refl;
+                rest = refl;
+                size = refl;
+              }),
+            ),
           ),
         )
 
@@ -139,18 +145,21 @@ module _
           rw (open-blob, ← board-in) (promised .0),
           (
             rw (open-blob, ← board-in) (promised .1 .0),
-            record {
-              refused = λ n p told. absurd (none n p (told .broken));
-              read = λ _. record {
-                cpus = accepted .cpus;
-                is-cpus = accepted .is-cpus;
-                only = accepted .only;
-                demands = rw (← board-of) (promised .1 .1);
-              };
-              untouched = λ ne. promised .1 .0 ∙ bytes-kept b before small (λ c. ne (ap (λ (a : BoardAnswer). a .number) (promised .0) ∙ c));
-              rest = rw (promised .1 .0) (bytes-rest b before);
-              size = rw (promised .1 .0) (bytes-size b before);
-            },
+            (
+              rw (promised .0) (board-words b (length before / wordSize)),
+              record {
+                refused = λ n p told. absurd (none n p (told .broken));
+                read = λ _. record {
+                  cpus = accepted .cpus;
+                  is-cpus = accepted .is-cpus;
+                  only = accepted .only;
+                  demands = rw (← board-of) (promised .1 .1);
+                };
+                untouched = λ ne. promised .1 .0 ∙ bytes-kept b before small (λ c. ne (ap (λ (a : BoardAnswer). a .number) (promised .0) ∙ c));
+                rest = rw (promised .1 .0) (bytes-rest b before);
+                size = rw (promised .1 .0) (bytes-size b before);
+              },
+            ),
           ),
         )
 

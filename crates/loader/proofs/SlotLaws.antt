@@ -1,19 +1,20 @@
 -- The slot of an MPIDR in a list of bytes: what is demanded of its answer, by what is demanded of the list's. Assumes nothing.
-use mathlib.Core.Path.{_≡_, refl, sym, ap, _∙_}
-use mathlib.Core.Bool.{Bool, true, false}
+use mathlib.Core.Path.{_≡_, refl, subst}
+use mathlib.Core.Bool.{Bool, true, false, cond}
 use mathlib.Core.List.{List}
 use Prim.Native.Nat.{ℕ, _%_, _/_, _≤_, _<_}
 use native.Mathlib.Omega.{arith}
 use lib.Dec.{eqb}
 use lib.ListN.{length}
-use borrow.Author.Tests.{eq-eqb, ne-eqb, lt-ltb}
+use borrow.Author.Tests.{eq-eqb, ne-eqb, eqb-true, eqb-false, lt-ltb}
 use Rattle.laws.specs.facts.Limits.{maxCpus}
 use Rattle.laws.specs.facts.First.{Before, First}
 use Rattle.wire.specs.facts.Bytes.{numberSize, numbersIn}
 use Rattle.wire.proofs.ByteLaws.{numbers-length}
 use Rattle.affinity.specs.declared.ListSlot.{ListSlot}
 use Rattle.affinity.specs.facts.List.{listStage, ListRule, SlotRule, SlotDemands}
-use Rattle.affinity.specs.answers.List.{firstOutside, listFault, slotAnswer}
+use Rattle.affinity.specs.answers.List.{listFault, slotAnswer}
+use Rattle.affinity.proofs.ListLaws.{slot-place-le}
 use Rattle.affinity.proofs.ListMeans.{slot-meets}
 use Rattle.loader.specs.facts.List.{ByteSlotRule, ByteSlotDemands}
 use Rattle.loader.specs.answers.List.{byteSlot}
@@ -84,3 +85,27 @@ module _ (bytes : List ℕ) (mpidr : ℕ) where
     long many =
         let more : maxCpus < length list = omega (arith, numbers-length bytes) in
         listed (rw (ne-eqb (length list) 0 (λ e. omega arith), lt-ltb maxCpus (length list) more))
+
+  -- a place of the list
+  pub byte-place : byteSlot mpidr bytes .place ≤ 256
+  unfolding byteSlot
+  byte-place = go (eqb (length bytes % numberSize) 0) refl
+    where
+      go :
+          (t : Bool) →
+          eqb (length bytes % numberSize) 0 ≡ t →
+          cond t (slotAnswer mpidr list) (record { number = 28; place = 0; slot = 0 }) .place ≤ 256
+      go true e = slot-place-le list mpidr
+      go false e = omega arith
+
+  -- what is demanded of the definition
+  pub byte-demands : ByteSlotDemands bytes mpidr (byteSlot mpidr bytes)
+  byte-demands = go (eqb (length bytes % numberSize) 0) refl
+    where
+      go : (t : Bool) → eqb (length bytes % numberSize) 0 ≡ t → ByteSlotDemands bytes mpidr (byteSlot mpidr bytes)
+      go true e =
+          let owed = listed (eqb-true (length bytes % numberSize) 0 e) {r = slotAnswer mpidr list} refl in
+          subst (ByteSlotDemands bytes mpidr) (owed .0) (owed .1)
+      go false e =
+          let owed = cut (eqb-false (length bytes % numberSize) 0 e) in
+          subst (ByteSlotDemands bytes mpidr) (owed .0) (owed .1)

@@ -13,6 +13,7 @@ ghost use Rattle.laws.specs.answers.Fault.{plain};
 ghost use Rattle.layout.specs.facts.Row.{rowSize};
 ghost use Rattle.wire.specs.facts.Bytes.{wordSize, wordsIn};
 ghost use Rattle.tables.specs.facts.Board.{board};
+ghost use Rattle.demands.specs.facts.Words.{Words};
 ghost use Rattle.demands.specs.facts.Reading.{Demands};
 ghost use Rattle.demands.specs.answers.Answer.{refusedWith, answerOf};
 ghost use Rattle.loader.specs.facts.Image.{ImageDemands};
@@ -71,6 +72,7 @@ fn read_board(
 pub fn read_image(width: u32, blob: &[u8], rows: &mut [u8]) -> BoardAnswer
     ensures answer { λ r. ⌜ r ≡ imageAnswer width (now (blob .entry)) (length (now (rows .entry))) ⌝ }
     ensures rows { λ _. ⌜ now (rows .exit) ≡ imageRows width (now (blob .entry)) (now (rows .entry)) ⌝ }
+    ensures words { λ r. ⌜ Words r ⌝ }
     ensures demands { λ r. ⌜ ImageDemands width (now (blob .entry)) (now (rows .entry)) r (now (rows .exit)) ⌝ }
 {
     let mut nodes = [0u32; NODE_ROOM];

@@ -1,3 +1,2 @@
 -- What the contracts of the exported calls cite.
 pub mod answers
-pub mod steps

@@ -4,3 +4,4 @@ pub mod Board
 pub mod List
 pub mod Tables
 pub mod Flat
+pub mod Bytes

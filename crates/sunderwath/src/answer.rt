@@ -7,7 +7,7 @@ ghost use Prim.Native.Nat.{_≤_};
 ghost use lib.ListN.{length};
 ghost use Rattle.sunderwath.specs.answers.Answer.{answerSize, answerWords, orShort, answerAfter};
 ghost use Rattle.sunderwath.specs.answers.Board.{boardWords};
-ghost use Rattle.sunderwath.specs.steps.Board.{Words};
+ghost use Rattle.demands.specs.facts.Words.{Words};
 
 // The words of an answer.
 pub const ANSWER_WORDS: usize = 11;

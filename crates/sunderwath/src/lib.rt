@@ -1,5 +1,6 @@
 // The calls for C. Each slice is a pointer and a count of elements; include/sunderwath.h says what a caller owes.
 mod answer;
+mod bytes;
 mod check;
 mod image;
 mod list;

@@ -46,6 +46,7 @@ returns c =
     refuses (a .width) (a .blob .now) (a .rows .now) (length-replicate {A = ℕ} nodeRoom 0) (length-replicate {A = ℕ} propRoom 0) (read .0)
     (read .1 .1 .1)
     (c .before .if1 .taken)
+    (omega (arith, c .before .before .struct-known .given))
     (c .refused .ensures)
 
 cast-node-words : tie.Need-cast-node-words

@@ -2,7 +2,7 @@
 use native.Mathlib.Omega.{arith}
 use lib.ListN.{length}
 use borrow.Author.Tests.{lt-ltb, le-ltb}
-use Rattle.sunderwath.proofs.CallLaws.{board-words}
+use Rattle.demands.proofs.BoundLaws.{board-words}
 use borrow.Author.Needs.{needs}
 use Rattle.sunderwath.proofs.read.sunderwath_read_tables.Statement.{statement}
 use Rattle.sunderwath.proofs.read.sunderwath_read_tables.Tie as tie

@@ -2,7 +2,7 @@
 use native.Mathlib.Omega.{arith}
 use lib.ListN.{length}
 use borrow.Author.Tests.{lt-ltb, le-ltb}
-use Rattle.sunderwath.proofs.CallLaws.{slots-words}
+use Rattle.demands.proofs.BoundLaws.{slots-words}
 use borrow.Author.Needs.{needs}
 use Rattle.sunderwath.proofs.slots.sunderwath_read_tables_slots.Statement.{statement}
 use Rattle.sunderwath.proofs.slots.sunderwath_read_tables_slots.Tie as tie

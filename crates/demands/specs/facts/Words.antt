@@ -1,6 +1,6 @@
--- An answer whose numbers are words.
+-- An answer whose numbers are words of 32 bits, as the calls for C tell them.
 use Prim.Native.Nat.{_^_, _<_}
 use Rattle.demands.specs.declared.BoardAnswer.{BoardAnswer}
 
 pub record Words (a : BoardAnswer) : Type 0 where
   pub place : a .place < 2 ^ 32

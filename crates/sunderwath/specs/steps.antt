@@ -1,2 +1,0 @@
--- What contracts inside the crate and its proofs use.
-pub mod Board
