@@ -1,6 +1,6 @@
 //! The hash of a list of MPIDRs, and the slot of each.
 //!
-//!     rustc -O -L target/staticlib -l static=exports examples/list_slots.rs -o list_slots && ./list_slots
+//!     rustc -O -L target/staticlib -l static=sunderwath examples/list_slots.rs -o list_slots && ./list_slots
 
 /// `SUNDERWATH_ANSWER_WORDS` of include/sunderwath.h.
 const ANSWER_WORDS: usize = 11;

@@ -2,7 +2,7 @@
  * Reads a flattened devicetree from a file and prints the rows of its processors: the blob into tables, and the tables, with the blob as
  * their pool, into rows.
  *
- *   gcc -Iinclude examples/read_flat.c target/staticlib/libexports.a -o read_flat && ./read_flat board.dtb
+ *   gcc -Iinclude examples/read_flat.c target/staticlib/libsunderwath.a -o read_flat && ./read_flat board.dtb
  */
 #include <stdio.h>
 

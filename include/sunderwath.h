@@ -7,16 +7,21 @@
  * hash of all MPIDRs. Beside the rows it can fill a table from slot to row. It
  * fills the tables of a /cpus subtree from a flattened devicetree, too.
  *
+ * A loader that has the blob and a buffer of bytes needs two calls only:
+ * sunderwath_read_blob makes rows of a blob, sunderwath_slot tells the slot of
+ * an MPIDR. All that they read and write is bytes. examples/loader.c uses them.
+ *
  * WHAT A CALLER OWES, for every function below
  *
- *  - Each pointer is followed by a count of ELEMENTS (words of 32 bits, MPIDRs
- *    of 64 bits, or bytes of a blob or pool), never a size in bytes.
+ *  - Each pointer is followed by a count of ELEMENTS: words of 32 bits, MPIDRs
+ *    of 64 bits, or bytes (of a blob or pool; for read_blob and slot of every
+ *    part). Words and MPIDRs are never counted in bytes.
  *  - Each pointer is valid for its count of elements, aligned for its type and
- *    not NULL, even where the count is 0.
+ *    not NULL, even where the count is 0. Bytes need no alignment.
  *  - The parts that are written (rows, answer; for read_tables_slots the table
- *    of slots besides; for read_flat the two tables and the answer) overlap no
- *    other part that is lent to the same call. Parts that are only read may
- *    overlap each other.
+ *    of slots besides; for read_flat the two tables and the answer; for slot
+ *    the answer) overlap no other part that is lent to the same call. Parts
+ *    that are only read may overlap each other.
  *  - No other thread changes a lent part during the call. The library keeps no
  *    state and no pointer after it returns.
  *
@@ -25,11 +30,13 @@
  *  - The number told is returned, and is word 0 of the answer too.
  *  - With fewer words of answer than stated (SUNDERWATH_ANSWER_WORDS, for
  *    read_flat SUNDERWATH_FLAT_ANSWER_WORDS), nothing is written at all and
- *    SUNDERWATH_ANSWER_SPACE is returned, before any other check.
- *  - Otherwise exactly the stated words of the answer are written.
+ *    SUNDERWATH_ANSWER_SPACE is returned, before any other check. For read_blob
+ *    and slot the same holds of bytes (SUNDERWATH_BYTES_ANSWER).
+ *  - Otherwise exactly the stated words or bytes of the answer are written.
  *  - Rows are written on acceptance only: 12 words for each processor from
- *    word 0. Everything behind the last row stays as it is. A refusal changes
- *    no word of the rows.
+ *    word 0; by read_blob 48 bytes from byte 0. Everything behind the last row
+ *    stays as it is. A refusal changes no word and no byte of the rows.
+ *  - Bytes are little-endian on every machine: the lowest comes first.
  *  - The table of read_tables_slots is written on acceptance only: each of its
  *    first 2^bits entries, where bits is the answer's SUNDERWATH_ANSWER_BITS.
  *    Everything behind stays as it is. A refusal changes no entry of the table
@@ -37,6 +44,18 @@
  *  - The tables of read_flat are written on acceptance only, from word 0: 3
  *    words for each node, 5 for each property. Everything behind stays as it
  *    is. A refusal changes no word of them.
+ *
+ * WHAT THE LIBRARY NEEDS
+ *
+ *  - memset, and nothing else: no heap, no other call. Firmware without
+ *    a C library provides memset itself.
+ *  - The archive, libsunderwath.a, is one object without data and without bss.
+ *    Its only undefined symbol is memset, its global symbols are the calls
+ *    below. scripts/symbols.sh checks this.
+ *  - Stack, as stated by SUNDERWATH_STACK_BYTES and its kin below.
+ *  - The texts of the numbers (sunderwath_strerror, sunderwath_check_name) are
+ *    not in the archive but in sunderwath_text.c, which needs nothing: compile
+ *    it with the program, or leave it out.
  */
 #ifndef SUNDERWATH_H
 #define SUNDERWATH_H
@@ -85,10 +104,25 @@ extern "C" {
 #define SUNDERWATH_FLAT_NODES 2      /* node records written */
 #define SUNDERWATH_FLAT_PROPERTIES 3 /* property records written */
 
-/* Words of a row. */
-#define SUNDERWATH_ROW_WORDS 12
+/*
+ * Bytes of the answer of sunderwath_read_blob and sunderwath_slot: four words,
+ * and the byte at which each begins. In a refusal the last word is 0.
+ */
+#define SUNDERWATH_BYTES_ANSWER 16
+#define SUNDERWATH_BYTES_NUMBER 0 /* 0 or the number of the rule broken */
+#define SUNDERWATH_BYTES_PLACE 4  /* where it is broken: see the numbers */
+#define SUNDERWATH_BYTES_SECOND 8 /* property record or NO_PROPERTY */
+#define SUNDERWATH_BYTES_COUNT 12 /* processors; for slot the slot */
 
-/* Positions of the words of a row. */
+/* Words of a row, and the bytes of a row that sunderwath_read_blob writes. */
+#define SUNDERWATH_ROW_WORDS 12
+#define SUNDERWATH_ROW_BYTES (4 * SUNDERWATH_ROW_WORDS)
+
+/* Bytes of an MPIDR in the list of sunderwath_slot, the lowest first. */
+#define SUNDERWATH_MPIDR_BYTES 8
+
+/* Positions of the words of a row. In a row of bytes, word k begins at byte
+ * 4 * k. */
 #define SUNDERWATH_ROW_LEAF 0        /* node record of the thread or core */
 #define SUNDERWATH_ROW_CPU 1         /* node record of its cpu node */
 #define SUNDERWATH_ROW_MPIDR_UPPER 2 /* upper cell of reg, 0 for one cell */
@@ -125,15 +159,20 @@ extern "C" {
 #define SUNDERWATH_MAX_TABLE_BITS 12
 #define SUNDERWATH_MAX_TABLE (1u << SUNDERWATH_MAX_TABLE_BITS) /* 4,096 */
 
+/* Records of the /cpus subtree that sunderwath_read_blob has room for: its
+ * tables are on the stack. */
+#define SUNDERWATH_BLOB_MAX_NODES 1024
+#define SUNDERWATH_BLOB_MAX_PROPERTIES 1024
+
 /*
  * The bytes of stack that sunderwath_read_tables and
  * sunderwath_read_tables_slots need at most. Measured on x86-64, not proved:
  * the proof is about a machine without a stack. The most is needed by 1,024
  * records nested in the map or below a cpu, as the ancestor test of rule 6
- * recurses on the parent; boards of 16 and of 256 cpus need 16,912 bytes, with
- * a table of slots 16,960. tests/c/stack_test.c measures these boards.
+ * recurses on the parent; boards of 16 and of 256 cpus need 16,944 bytes, with
+ * a table of slots 16,976. tests/c/stack_test.c measures these boards.
  */
-#define SUNDERWATH_STACK_BYTES 49568
+#define SUNDERWATH_STACK_BYTES 49584
 
 /*
  * The bytes of stack that sunderwath_read_flat needs at most, whatever the
@@ -142,7 +181,20 @@ extern "C" {
  * the compiler and to memset. tests/c/stack_test.c measures blobs of 16 and of
  * 256 cpus, a full one, one as deep as fits and one of names that overlap.
  */
-#define SUNDERWATH_FLAT_STACK_BYTES 744
+#define SUNDERWATH_FLAT_STACK_BYTES 776
+
+/*
+ * The bytes of stack that sunderwath_read_blob needs at most: its two tables,
+ * 32,768 bytes, and what reading them needs. The rows are made in the table of
+ * the properties. Measured on x86-64, not proved. Boards of 16 cpus and of as
+ * many as 1,024 properties allow need 49,744 bytes; the most is needed by the
+ * boards that SUNDERWATH_STACK_BYTES speaks of.
+ */
+#define SUNDERWATH_BLOB_STACK_BYTES 82352
+
+/* The bytes of stack that sunderwath_slot needs at most. Measured on x86-64,
+ * not proved. */
+#define SUNDERWATH_SLOT_STACK_BYTES 2184
 
 /*
  * The numbers, in the order of checking. Each comment says what is wrong and,
@@ -153,7 +205,8 @@ extern "C" {
 enum sunderwath_number {
     SUNDERWATH_ACCEPTED = 0,
 
-    /* ---- the flattened devicetree (told by sunderwath_read_flat) ---- */
+    /* ---- the flattened devicetree (told by sunderwath_read_flat and
+     * sunderwath_read_blob) ---- */
 
     /* blob not 40 to 65,536 bytes, or magic, total size or version in its
      * header; 0 */
@@ -167,7 +220,8 @@ enum sunderwath_number {
     SUNDERWATH_BLOB_STRUCTURE = 33,
     /* root without, or with more than one child named cpus; 0 */
     SUNDERWATH_BLOB_CPUS = 34,
-    /* node or property table too short; 0 */
+    /* node or property table too short: a lent one, or for
+     * sunderwath_read_blob more than 1,024 nodes or properties in /cpus; 0 */
     SUNDERWATH_TABLE_SPACE = 35,
 
     /* ---- the tables ---- */
@@ -235,7 +289,8 @@ enum sunderwath_number {
     SUNDERWATH_CPU_MAP_CPU_REPEATED = 25,
     /* cpu node named by no leaf; record */
     SUNDERWATH_CPU_UNMAPPED = 26,
-    /* row buffer too short; 0 */
+    /* row buffer too short: 12 words, for sunderwath_read_blob 48 bytes, for
+     * each cpu node; 0 */
     SUNDERWATH_ROW_SPACE = 27,
 
     /* ---- the table of slots (told by sunderwath_read_tables_slots) ---- */
@@ -247,7 +302,8 @@ enum sunderwath_number {
 
     /* ---- lists of MPIDRs ---- */
 
-    /* empty or more than 256; 0 */
+    /* empty, more than 256 or, for sunderwath_slot, bytes that are not a
+     * multiple of eight; 0 */
     SUNDERWATH_LIST_LENGTH = 28,
     /* bit outside 39..32 and 23..0; index */
     SUNDERWATH_LIST_MPIDR = 29,
@@ -256,7 +312,8 @@ enum sunderwath_number {
 
     /* ---- the call ---- */
 
-    /* answer of fewer words than stated; nothing written */
+    /* answer of fewer words, for sunderwath_read_blob and sunderwath_slot of
+     * fewer bytes, than stated; nothing written */
     SUNDERWATH_ANSWER_SPACE = 49
 };
 
@@ -333,6 +390,55 @@ uint32_t sunderwath_read_tables_slots(uint32_t width,
                                       uint32_t *rows, size_t rows_n,
                                       uint32_t *table, size_t table_n,
                                       uint32_t *answer, size_t answer_n);
+
+/*
+ * Reads a board from a flattened devicetree, lent as to sunderwath_read_flat,
+ * without tables of the caller: bytes in, bytes out. Tells 31 to 35 first, then
+ * 1 and all that sunderwath_read_tables tells of the tables of /cpus, with the
+ * same places and second places; records have the numbers that
+ * sunderwath_read_flat gives them. 2, 3, 4, 6 and 9 never come up, as no such
+ * tables are made of a blob. On acceptance the answer's count is the number of
+ * processors, and each has its row in `rows`: SUNDERWATH_ROW_BYTES bytes, word
+ * after word. 27 is told by bytes: fewer than SUNDERWATH_ROW_BYTES for each cpu
+ * node. A buffer for SUNDERWATH_MAX_CPUS rows is never too short.
+ *
+ * The tables are on the stack, so there is room for SUNDERWATH_BLOB_MAX_NODES
+ * nodes and SUNDERWATH_BLOB_MAX_PROPERTIES properties of /cpus, and 35 is told
+ * beyond either. A board with more properties is read by sunderwath_read_flat
+ * and then sunderwath_read_tables, with tables that the caller lends.
+ */
+uint32_t sunderwath_read_blob(uint32_t width,
+                              const uint8_t *blob, size_t blob_n,
+                              uint8_t *rows, size_t rows_n,
+                              uint8_t *answer, size_t answer_n);
+
+/*
+ * The slot of one MPIDR in the hash of a list, as sunderwath_list_slot answers
+ * it. The list is bytes, SUNDERWATH_MPIDR_BYTES for each MPIDR, and `list_n`
+ * counts the bytes. Tells 28, here for bytes that are not a multiple of eight
+ * too, 29, whose place is the index of the MPIDR and not of a byte, or 30. On
+ * acceptance the last word of the answer is the slot. The second place is
+ * always SUNDERWATH_NO_PROPERTY.
+ */
+uint32_t sunderwath_slot(uint64_t mpidr, const uint8_t *list, size_t list_n,
+                         uint8_t *answer, size_t answer_n);
+
+/*
+ * Texts of the numbers. These two functions are in sunderwath_text.c, not in
+ * the archive. They know each number of the enumeration above, 0 too; 14 and
+ * every other number get one fixed text. What they return is never NULL: ASCII
+ * characters and a zero byte, constant, not to be freed. The command line
+ * prints the same texts.
+ */
+
+/* A sentence without a full stop, as "more than four clusters are nested" for
+ * 22; "unknown number" for a number that the enumeration does not have. */
+const char *sunderwath_strerror(uint32_t number);
+
+/* A name that stays the same in later versions, as "cpu_map_depth" for 22: the
+ * enumerator in lower case, without the prefix. "unknown_number" for a number
+ * that the enumeration does not have. */
+const char *sunderwath_check_name(uint32_t number);
 
 /*
  * FOR TESTS ONLY. Programs should call sunderwath_read_tables, which does both

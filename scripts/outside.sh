@@ -3,6 +3,8 @@
 set -euo pipefail
 cd "$(dirname "$0")/.."
 mkdir -p target/c
+archive=target/staticlib/libsunderwath.a
+strict=(-Wall -Wextra -Werror -Iinclude)
 
 # Says how long a part took, and starts the clock of the next.
 took() {
@@ -12,11 +14,12 @@ took() {
 SECONDS=0
 
 echo "== the archive"
-rt staticlib exports >target/staticlib.log 2>&1 || { cat target/staticlib.log; exit 1; }
+rt staticlib sunderwath >target/staticlib.log 2>&1 || { cat target/staticlib.log; exit 1; }
+./scripts/symbols.sh
 took
 
 echo "== Rust: the library compared with the second reader"
-cargo test --offline --quiet --manifest-path tests/Cargo.toml --target-dir target/tests --features flat -- --nocapture
+cargo test --offline --quiet --manifest-path tests/Cargo.toml --target-dir target/tests --features loader -- --nocapture
 took
 
 echo "== Rust: the command line on boards/"
@@ -24,23 +27,37 @@ cargo test --offline --quiet --manifest-path cli/Cargo.toml --target-dir target/
 took
 
 echo "== C: calls through include/sunderwath.h, and the stack that reading needs"
-for name in list_test board_test slots_test flat_test stack_test; do
-    gcc -std=c11 -Wall -Wextra -Werror -Iinclude "tests/c/$name.c" target/staticlib/libexports.a -o "target/c/$name"
+for name in list_test board_test slots_test flat_test loader_test stack_test; do
+    gcc -std=c11 "${strict[@]}" "tests/c/$name.c" "$archive" -o "target/c/$name"
     "target/c/$name"
 done
 took
 
+echo "== the loader in C and C++ beside the command line"
+./scripts/loader.sh
+took
+
 echo "== the examples of the README"
-gcc -std=c11 -Wall -Wextra -Werror -Iinclude examples/read_board.c target/staticlib/libexports.a -o target/c/read_board
-gcc -std=c11 -Wall -Wextra -Werror -Iinclude examples/read_flat.c target/staticlib/libexports.a -o target/c/read_flat
-gcc -std=c11 -Wall -Wextra -Werror -Iinclude examples/wake_slot.c target/staticlib/libexports.a -o target/c/wake_slot
-rustc -O -L target/staticlib -l static=exports examples/list_slots.rs -o target/c/list_slots
+for name in read_board read_flat wake_slot; do
+    gcc -std=c11 "${strict[@]}" "examples/$name.c" "$archive" -o "target/c/$name"
+done
+gcc -std=c11 "${strict[@]}" examples/loader.c include/sunderwath_text.c "$archive" -o target/c/loader
+rustc -O -L target/staticlib -l static=sunderwath examples/list_slots.rs -o target/c/list_slots
 dtc -q -I dts -O dtb -o target/c/whole-case.dtb boards/whole-case.dts
-{ target/c/read_board; target/c/list_slots; target/c/read_flat target/c/whole-case.dtb; target/c/wake_slot; } | diff - examples/expected.txt
+dtc -q -I dts -O dtb -o target/c/refused.dtb boards/refused-12-reg.dts
+{
+    target/c/read_board
+    target/c/list_slots
+    target/c/read_flat target/c/whole-case.dtb
+    target/c/wake_slot
+    target/c/loader target/c/whole-case.dtb
+    target/c/loader target/c/refused.dtb 2>&1 || echo "exit status $?"
+} | diff - examples/expected.txt
 took
 
 echo "== C under valgrind"
-valgrind --quiet --error-exitcode=1 target/c/board_test >/dev/null
-valgrind --quiet --error-exitcode=1 target/c/slots_test >/dev/null
-valgrind --quiet --error-exitcode=1 target/c/flat_test >/dev/null
+for name in board_test slots_test flat_test loader_test; do
+    valgrind --quiet --error-exitcode=1 "target/c/$name" >/dev/null
+done
+valgrind --quiet --error-exitcode=1 target/c/loader target/c/whole-case.dtb >/dev/null
 took

@@ -9,6 +9,7 @@ fi
 
 missing=()
 command -v gcc >/dev/null || missing+=(gcc libc6-dev)
+command -v g++ >/dev/null || missing+=(g++)
 command -v cargo >/dev/null || missing+=(cargo)
 command -v dtc >/dev/null || missing+=(device-tree-compiler)
 command -v valgrind >/dev/null || missing+=(valgrind)

@@ -6,7 +6,7 @@ top=$(cd "$(dirname "$0")/.." && pwd)
 (
     cd "$top"
     mkdir -p target
-    if ! rt staticlib exports >target/show.log 2>&1; then
+    if ! rt staticlib sunderwath >target/show.log 2>&1; then
         cat target/show.log >&2
         exit 2
     fi

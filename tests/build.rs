@@ -10,14 +10,14 @@ fn main() {
         Ok(dir) => PathBuf::from(dir),
         Err(_) => here.join("../target/staticlib"),
     };
-    let archive = dir.join("libexports.a");
+    let archive = dir.join("libsunderwath.a");
     if !archive.exists() {
         println!("cargo:warning={} does not exist yet", archive.display());
     }
     println!("cargo:rerun-if-env-changed=SUNDERWATH_LIB_DIR");
     println!("cargo:rerun-if-changed={}", archive.display());
     println!("cargo:rustc-link-search=native={}", dir.display());
-    println!("cargo:rustc-link-lib=static=exports");
+    println!("cargo:rustc-link-lib=static=sunderwath");
     if env::var_os("CARGO_FEATURE_FDT").is_some() {
         fdt_reader(&here.join("c/bench_fdt.c"));
     }

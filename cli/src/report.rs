@@ -101,7 +101,7 @@ mod tests {
             "ERROR 34 (blob_cpus): /: the root must have exactly one child named cpus (it has 0)";
         assert_eq!(of_blob(fault), expected);
         let fault = Fault::of_blob(35, String::new());
-        let expected = "ERROR 35 (table_space): a lent table is too short for the records of /cpus";
+        let expected = "ERROR 35 (table_space): a table is too short for the records of /cpus";
         assert_eq!(of_blob(fault), expected);
     }
 

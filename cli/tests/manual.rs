@@ -1,6 +1,6 @@
 //! The manual page and the header name what the program has.
 
-use sunderwath::messages::MESSAGES;
+use sunderwath::messages::check_and_sentence;
 use sunderwath::options::USAGE;
 
 const MANUAL: &str = include_str!("../../docs/sunderwath.1");
@@ -9,8 +9,8 @@ const MANUAL: &str = include_str!("../../docs/sunderwath.1");
 #[test]
 fn manual_lists_the_checks() {
     let of = |numbers: std::ops::RangeInclusive<u32>| {
-        let told = MESSAGES.iter().filter(move |m| numbers.contains(&m.number));
-        told.map(|m| format!("{:2}  {}\n", m.number, m.check))
+        let used = numbers.filter(|&number| number != 14);
+        used.map(|number| format!("{number:2}  {}\n", check_and_sentence(number).0))
     };
     let board = of(1..=9).chain(of(36..=37)).chain(of(10..=27));
     let list: String = of(31..=35).chain(board).chain(of(38..=39)).collect();

@@ -1,11 +1,12 @@
 /*
- * Measures the stack that sunderwath_read_tables, sunderwath_read_tables_slots
- * and sunderwath_read_flat need. Each board or blob is read on a stack of its
- * own, painted before; afterwards the paint that is gone is counted, less what
- * an empty function takes there. Prints the bytes of each; exit status 1 where
- * a board needs more than SUNDERWATH_STACK_BYTES, an ordinary one more than
- * ORDINARY_BYTES, a blob more than SUNDERWATH_FLAT_STACK_BYTES, or is not
- * answered as expected.
+ * Measures the stack that sunderwath_read_tables, sunderwath_read_tables_slots,
+ * sunderwath_read_flat, sunderwath_read_blob and sunderwath_slot need. Each
+ * board, blob or list is read on a stack of its own, painted before; afterwards
+ * the paint that is gone is counted, less what an empty function takes there.
+ * Prints the bytes of each; exit status 1 where one needs more than the header
+ * states of its call, an ordinary board more than ORDINARY_BYTES or, as a blob,
+ * more than ORDINARY_BLOB_BYTES, or is not answered as expected; and where the
+ * header states far more than read_blob or slot needed.
  */
 #define _XOPEN_SOURCE 700
 
@@ -21,7 +22,18 @@
 #define LAST (SUNDERWATH_MAX_NODES - 1)
 
 /* The most that boards without long chains of records have needed. */
-#define ORDINARY_BYTES 17120
+#define ORDINARY_BYTES 17136
+
+/* Beside what reading its tables takes, the blob call needs the same stack for
+ * each board. */
+#define ORDINARY_BLOB_BYTES \
+    (SUNDERWATH_BLOB_STACK_BYTES - (SUNDERWATH_STACK_BYTES - ORDINARY_BYTES))
+
+/* What the header may state of read_blob and slot beyond what they need. */
+#define SLACK 256
+
+/* A cpu and its leaf have four properties, the cpus node two. */
+#define MOST_BLOB_CPUS ((SUNDERWATH_BLOB_MAX_PROPERTIES - 2) / 4)
 
 /* Of either table, in the largest blob. */
 #define MOST_RECORDS 5461
@@ -42,6 +54,12 @@ static size_t n, p, bytes;
 static struct blob blob;
 static uint32_t flat_nodes[MOST_RECORDS * SUNDERWATH_NODE_WORDS];
 static uint32_t flat_props[MOST_RECORDS * SUNDERWATH_PROPERTY_WORDS];
+
+static uint8_t row_bytes[SUNDERWATH_MAX_CPUS * SUNDERWATH_ROW_BYTES];
+static uint8_t list[(SUNDERWATH_MAX_CPUS + 1) * SUNDERWATH_MPIDR_BYTES];
+static size_t list_n;
+static uint64_t asked;
+static uint8_t told[SUNDERWATH_BYTES_ANSWER];
 
 static uint64_t stack[STACK_WORDS];
 static ucontext_t outside, inside;
@@ -260,12 +278,23 @@ static void read_board_slots(void)
                                  SUNDERWATH_ANSWER_WORDS);
 }
 
-static void read_blob(void)
+static void read_flat(void)
 {
     sunderwath_read_flat(blob.bytes, blob.n, flat_nodes,
                          sizeof flat_nodes / sizeof *flat_nodes, flat_props,
                          sizeof flat_props / sizeof *flat_props, answer,
                          SUNDERWATH_FLAT_ANSWER_WORDS);
+}
+
+static void read_blob(void)
+{
+    sunderwath_read_blob(64, blob.bytes, blob.n, row_bytes, sizeof row_bytes,
+                         told, sizeof told);
+}
+
+static void ask_slot(void)
+{
+    sunderwath_slot(asked, list, list_n, told, sizeof told);
 }
 
 static void do_nothing(void)
@@ -292,18 +321,36 @@ static size_t bytes_touched(void (*function)(void))
     return sizeof stack - at * sizeof *stack;
 }
 
+static uint32_t told_word(size_t at)
+{
+    return (uint32_t)told[at] | (uint32_t)told[at + 1] << 8 |
+           (uint32_t)told[at + 2] << 16 | (uint32_t)told[at + 3] << 24;
+}
+
+/* An answer of bytes, as words of the other answers. */
+static void take_told_words(void)
+{
+    answer[SUNDERWATH_ANSWER_NUMBER] = told_word(SUNDERWATH_BYTES_NUMBER);
+    answer[SUNDERWATH_ANSWER_PLACE] = told_word(SUNDERWATH_BYTES_PLACE);
+    answer[SUNDERWATH_ANSWER_SECOND] = told_word(SUNDERWATH_BYTES_SECOND);
+    answer[SUNDERWATH_ANSWER_COUNT] = told_word(SUNDERWATH_BYTES_COUNT);
+}
+
 /* Reads the board or blob once before: what the dynamic linker does at the
  * first call of a function is not counted. */
 static void measure(const char *name, uint32_t number, uint32_t place)
 {
     /* none of a board here; read_flat does not write the word */
-    uint32_t second = reader == read_blob ? 0xA5A5A5A5 : SUNDERWATH_NONE;
+    uint32_t second = reader == read_flat ? 0xA5A5A5A5 : SUNDERWATH_NONE;
     size_t need;
     const char *verdict = "ok";
 
     reader();
     memset(answer, 0xA5, sizeof answer);
+    memset(told, 0xA5, sizeof told);
     need = bytes_touched(reader) - bytes_touched(do_nothing);
+    if (reader == read_blob || reader == ask_slot)
+        take_told_words();
     if (need > largest)
         largest = need;
     if (need > limit)
@@ -316,6 +363,14 @@ static void measure(const char *name, uint32_t number, uint32_t place)
     printf("%-46s number %2u at %5u %6zu bytes %s\n", name,
            (unsigned)answer[SUNDERWATH_ANSWER_NUMBER],
            (unsigned)answer[SUNDERWATH_ANSWER_PLACE], need, verdict);
+}
+
+/* The board, as the call that is measured takes it. */
+static void measure_board(const char *name, uint32_t number, uint32_t place)
+{
+    if (reader == read_blob)
+        blob_of_board();
+    measure(name, number, place);
 }
 
 /* ---- the boards ---- */
@@ -338,18 +393,18 @@ static void nested_in_the_map(void)
     start();
     add_cpu(0);
     add_chain(add_node(0, "cpu-map"), "cluster0", LAST);
-    measure("nested in the map", 22, 7);
+    measure_board("nested in the map", 22, 7);
 
     start();
     add_cpu(0);
     add_chain(add_node(0, "cpu-map"), "cluster0", LAST - 1);
     add_node(2, "cluster1");
-    measure("nested in the map, the last one below the map", 22, 7);
+    measure_board("nested in the map, the last one below the map", 22, 7);
 
     start();
     add_chain(add_node(0, "cpu-map"), "cluster0", LAST - 1);
     add_cpu(0);
-    measure("nested in the map, the last one below cpus", 22, 6);
+    measure_board("nested in the map, the last one below cpus", 22, 6);
 }
 
 /* A map of one core as records 1 to 3, and a chain from record 4, a cpu, to
@@ -367,20 +422,24 @@ static void chain_below_a_cpu(uint32_t last)
 static void nested_below_a_cpu(void)
 {
     chain_below_a_cpu(LAST);
-    measure("nested below a cpu", 0, 0);
+    measure_board("nested below a cpu", 0, 0);
 
     chain_below_a_cpu(LAST - 1);
     add_node(0, "cache");
-    measure("nested below a cpu, the last one below cpus", 0, 0);
-
-    chain_below_a_cpu(LAST - 1);
-    add_node(1, "cache");
-    measure("nested below a cpu, the last one below the map", 6, LAST);
+    measure_board("nested below a cpu, the last one below cpus", 0, 0);
 
     start();
     add_chain(add_cpu(0), "cache", LAST - 1);
     add_node(0, "cpu-map");
-    measure("nested below a cpu, the map last", 23, LAST);
+    measure_board("nested below a cpu, the map last", 23, LAST);
+}
+
+/* A parent that no blob can give a record. */
+static void nested_out_of_order(void)
+{
+    chain_below_a_cpu(LAST - 1);
+    add_node(1, "cache");
+    measure("nested below a cpu, the last one below the map", 6, LAST);
 }
 
 /* ---- the blobs ---- */
@@ -447,7 +506,101 @@ static void boards(void (*call)(void))
     limit = SUNDERWATH_STACK_BYTES;
     nested_in_the_map();
     nested_below_a_cpu();
+    nested_out_of_order();
     sum_up("SUNDERWATH_STACK_BYTES", SUNDERWATH_STACK_BYTES);
+}
+
+static void flat_blobs(void)
+{
+    reader = read_flat;
+    limit = SUNDERWATH_FLAT_STACK_BYTES;
+    accepted_blobs();
+    refused_blob();
+    sum_up("SUNDERWATH_FLAT_STACK_BYTES", SUNDERWATH_FLAT_STACK_BYTES);
+}
+
+/* ---- the calls on bytes ---- */
+
+/* The header states little more than what was needed. */
+static void sum_up_closely(const char *name, size_t bytes_said)
+{
+    if (bytes_said > largest + SLACK) {
+        printf("%s: %zu bytes MORE THAN NEEDED\n", name, bytes_said - largest);
+        failures++;
+    }
+    sum_up(name, bytes_said);
+}
+
+static void ordinary_blob(const char *name, uint32_t cpus)
+{
+    measure_board(name, 0, 0);
+    if (answer[SUNDERWATH_ANSWER_COUNT] != cpus) {
+        printf("%s: DIFFERENT count\n", name);
+        failures++;
+    }
+}
+
+/* Blobs that are refused before their tables are read. */
+static void unread_blobs(void)
+{
+    regular_board(SUNDERWATH_MAX_CPUS);
+    measure_board("256 cpus, too many properties", SUNDERWATH_TABLE_SPACE, 0);
+    nested_blob();
+    measure("blob of nested nodes, too many", SUNDERWATH_TABLE_SPACE, 0);
+    overlapping_blob();
+    measure("blob of overlapping names, too many", SUNDERWATH_TABLE_SPACE, 0);
+    refused_blob();
+}
+
+static void blobs_to_rows(void)
+{
+    reader = read_blob;
+    limit = ORDINARY_BLOB_BYTES;
+    regular_board(16);
+    ordinary_blob("16 cpus", 16);
+    regular_board(MOST_BLOB_CPUS);
+    ordinary_blob("as many cpus as properties allow", MOST_BLOB_CPUS);
+    deepest_map();
+    ordinary_blob("the deepest map", 1);
+    unread_blobs();
+    limit = SUNDERWATH_BLOB_STACK_BYTES;
+    nested_in_the_map();
+    nested_below_a_cpu();
+    sum_up_closely("SUNDERWATH_BLOB_STACK_BYTES", SUNDERWATH_BLOB_STACK_BYTES);
+}
+
+/* A list of MPIDRs in which all affinity bits differ; the last one is asked. */
+static void list_of(size_t count)
+{
+    size_t at, byte;
+
+    for (at = 0; at < count; at++) {
+        asked = UINT64_C(0x0100010101) * (at % SUNDERWATH_MAX_CPUS);
+        for (byte = 0; byte < SUNDERWATH_MPIDR_BYTES; byte++)
+            list[SUNDERWATH_MPIDR_BYTES * at + byte] =
+                (uint8_t)(asked >> 8 * byte);
+    }
+    list_n = SUNDERWATH_MPIDR_BYTES * count;
+}
+
+static void slots_of_lists(void)
+{
+    reader = ask_slot;
+    limit = SUNDERWATH_SLOT_STACK_BYTES;
+    list_of(1);
+    measure("slot, list of 1", 0, 0);
+    list_of(SUNDERWATH_MAX_CPUS);
+    measure("slot, list of 256", 0, 0);
+    asked = 1;
+    measure("slot, list of 256, unknown", SUNDERWATH_LIST_UNKNOWN, 0);
+    list[list_n - 1] = 1;
+    measure("slot, list of 256, bad bit", SUNDERWATH_LIST_MPIDR,
+            SUNDERWATH_MAX_CPUS - 1);
+    list_n--;
+    measure("slot, list that ends inside", SUNDERWATH_LIST_LENGTH, 0);
+    list_of(SUNDERWATH_MAX_CPUS + 1);
+    measure("slot, list of 257", SUNDERWATH_LIST_LENGTH, 0);
+    sum_up_closely("SUNDERWATH_SLOT_STACK_BYTES", SUNDERWATH_SLOT_STACK_BYTES);
 }
 
 int main(void)
@@ -456,10 +609,10 @@ int main(void)
     puts("the same boards with a table of slots");
     boards(read_board_slots);
 
-    reader = read_blob;
-    limit = SUNDERWATH_FLAT_STACK_BYTES;
-    accepted_blobs();
-    refused_blob();
-    sum_up("SUNDERWATH_FLAT_STACK_BYTES", SUNDERWATH_FLAT_STACK_BYTES);
+    puts("blobs to tables");
+    flat_blobs();
+    puts("blobs to rows, and slots, on bytes");
+    blobs_to_rows();
+    slots_of_lists();
     return failures == 0 ? 0 : 1;
 }

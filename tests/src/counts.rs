@@ -3,7 +3,7 @@
 use crate::answer::{Answer, NO_PROPERTY, SHORT_ANSWER};
 use crate::build::property_faults::NEEDED;
 use crate::second::SLOT_NUMBERS;
-use std::collections::BTreeMap;
+use std::collections::{BTreeMap, BTreeSet};
 
 /// The numbers that read_tables tells.
 pub fn numbers() -> impl Iterator<Item = u32> {
@@ -13,6 +13,14 @@ pub fn numbers() -> impl Iterator<Item = u32> {
 /// The numbers that read_tables_slots tells, with 49 of a short answer.
 pub fn slot_numbers() -> impl Iterator<Item = u32> {
     numbers().chain(SLOT_NUMBERS).chain([SHORT_ANSWER])
+}
+
+/// The numbers that read_blob tells, with 49 of a short answer. A blob's tables
+/// are whole, not too long and depth first, each value lies in the blob, and
+/// record 0 is named `cpus`: 2, 3, 4, 6 and 9 are not told.
+pub fn blob_numbers() -> impl Iterator<Item = u32> {
+    let of_board = numbers().filter(|number| ![2, 3, 4, 6, 9].contains(number));
+    (31..=35).chain(of_board).chain([SHORT_ANSWER])
 }
 
 /// Answers by number, and by whether they have a property record.
@@ -33,12 +41,21 @@ impl Counts {
         self.of_sort(number, false) + self.of_sort(number, true)
     }
 
-    /// Whether every number was told, those with a second place both where the
-    /// property is there and where it is missing.
-    pub fn complete(&self) -> bool {
+    /// The numbers that were told, rising.
+    pub fn told(&self) -> BTreeSet<u32> {
+        self.0.keys().map(|&(number, _)| number).collect()
+    }
+
+    /// Whether the numbers with a second place were told both where the property
+    /// is there and where it is missing.
+    pub fn second_places(&self) -> bool {
         let both = |number| self.of_sort(number, false) > 0 && self.of_sort(number, true) > 0;
-        numbers().all(|number| self.of(number) > 0)
-            && NEEDED.iter().all(|needed| both(needed.number))
+        NEEDED.iter().all(|needed| both(needed.number))
+    }
+
+    /// Whether every number was told, and these in both ways.
+    pub fn complete(&self) -> bool {
+        numbers().all(|number| self.of(number) > 0) && self.second_places()
     }
 
     /// A line for each number of read_tables that was told, with 0 for acceptance,

@@ -77,6 +77,24 @@ mod raw {
             answer: *mut u32,
             a: usize,
         ) -> u32;
+        #[cfg(feature = "loader")]
+        pub fn sunderwath_read_blob(
+            width: u32,
+            blob: *const u8,
+            blob_n: usize,
+            rows: *mut u8,
+            rows_n: usize,
+            answer: *mut u8,
+            answer_n: usize,
+        ) -> u32;
+        #[cfg(feature = "loader")]
+        pub fn sunderwath_slot(
+            mpidr: u64,
+            list: *const u8,
+            list_n: usize,
+            answer: *mut u8,
+            answer_n: usize,
+        ) -> u32;
     }
 }
 
@@ -210,6 +228,36 @@ pub fn read_flat_into(
             nodes.len(),
             props.as_mut_ptr(),
             props.len(),
+            answer.as_mut_ptr(),
+            answer.len(),
+        )
+    }
+}
+
+/// A blob to rows, all parts as bytes.
+#[cfg(feature = "loader")]
+pub fn read_blob_into(width: u32, blob: &[u8], rows: &mut [u8], answer: &mut [u8]) -> u32 {
+    unsafe {
+        raw::sunderwath_read_blob(
+            width,
+            blob.as_ptr(),
+            blob.len(),
+            rows.as_mut_ptr(),
+            rows.len(),
+            answer.as_mut_ptr(),
+            answer.len(),
+        )
+    }
+}
+
+/// The slot of an MPIDR in a list of bytes.
+#[cfg(feature = "loader")]
+pub fn slot_into(mpidr: u64, list: &[u8], answer: &mut [u8]) -> u32 {
+    unsafe {
+        raw::sunderwath_slot(
+            mpidr,
+            list.as_ptr(),
+            list.len(),
             answer.as_mut_ptr(),
             answer.len(),
         )

@@ -1,8 +1,7 @@
 //! read_flat and then read_tables: the boards that dtc compiles, trees written
 //! as tables and as blobs, and what read_tables may tell of a blob's tables.
 
-use std::path::{Path, PathBuf};
-use std::process::Command;
+use std::path::PathBuf;
 use sunderwath_tests::answer::Answer;
 use sunderwath_tests::build::damage::spoil_tree;
 use sunderwath_tests::build::flat::{items, read_items, Item};
@@ -15,27 +14,9 @@ use sunderwath_tests::build::{blob, worked, Board, Node, FULL_ROOM};
 use sunderwath_tests::compare::{compare, library};
 use sunderwath_tests::compare_flat::{agreed_content, agreed_with_room, content};
 use sunderwath_tests::counts::Counts;
+use sunderwath_tests::dtc::{compiled, number_of, sources, LAYOUTS};
 use sunderwath_tests::rng::Rng;
 use sunderwath_tests::second::FlatTables;
-
-fn sources() -> Vec<PathBuf> {
-    let folder = Path::new(env!("CARGO_MANIFEST_DIR")).join("../boards");
-    let files = std::fs::read_dir(folder).expect("boards/ can be read");
-    let mut list: Vec<PathBuf> = files
-        .map(|file| file.expect("boards/ can be read").path())
-        .filter(|path| path.extension().is_some_and(|e| e == "dts"))
-        .collect();
-    list.sort();
-    list
-}
-
-fn compiled(source: &Path, options: &[&str]) -> Vec<u8> {
-    let mut command = Command::new("dtc");
-    command.args(["-q", "-I", "dts", "-O", "dtb"]).args(options);
-    let output = command.arg(source).output().expect("dtc can be started");
-    assert!(output.status.success(), "{}", source.display());
-    output.stdout
-}
 
 /// The tables of a blob, with the blob as the pool.
 fn board_of(blob: &[u8], width: u32) -> Board {
@@ -58,18 +39,6 @@ fn told(board: &Board) -> (Answer, Vec<u32>) {
     library(board)
 }
 
-/// The number that boards/README.md says is told of a board.
-fn number_of(source: &Path) -> u32 {
-    let name = source.file_stem().expect("it has a name").to_string_lossy();
-    match name.strip_prefix("refused-") {
-        Some(rest) => rest[..2].parse().expect("two digits"),
-        None if name == "example3" => 24,
-        None if name == "example3-corrected" => 25,
-        None if name == "example3-no-phandle" => 17,
-        None => 0,
-    }
-}
-
 #[test]
 fn boards_of_dtc() {
     let sources = sources();
@@ -86,12 +55,7 @@ fn boards_of_dtc() {
         let wanted = agreed_content(&plain);
         let (answer, rows) = told(&board_of(&plain, 64));
         assert_eq!(answer.number, number, "{}", source.display());
-        for options in [
-            &["-R", "3"][..],
-            &["-p", "77"],
-            &["-S", "8192"],
-            &["-b", "1"],
-        ] {
+        for options in LAYOUTS {
             let blob = compiled(source, options);
             assert_eq!(agreed_content(&blob), wanted);
             assert_eq!(told(&board_of(&blob, 64)), (answer, rows.clone()));

@@ -21,7 +21,7 @@ use Rattle.board.specs.declared.Checked.{Checked}
 use Rattle.board.specs.declared.Asked.{Asked}
 use Rattle.board.specs.steps.Survey.{surveyOf, Lists}
 use Rattle.board.specs.steps.Read.{readFault, checkedOf, answerFrom}
-use Rattle.board.proofs.FrontLaws.{front-fits, front-is}
+use Rattle.laws.proofs.FrontLaws.{front-fits, front-is}
 use Rattle.board.proofs.ReadLaws.{counts, stops, rooms-is, survey-clear, refuses, accepts, Met}
 use Rattle.board.proofs.SurveyLaws.{survey-few}
 

@@ -1,5 +1,4 @@
 -- Laws about the parts of the reading calls.
-pub mod FrontLaws
 pub mod ReadLaws
 pub mod JoinLaws
 pub mod CallLaws

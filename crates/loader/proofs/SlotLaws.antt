@@ -1,5 +1,5 @@
 -- The slot of an MPIDR in a list of bytes: what is demanded of its answer, by what is demanded of the list's. Assumes nothing.
-use mathlib.Core.Path.{_≡_, refl, subst}
+use mathlib.Core.Path.{_≡_, refl, sym, subst, ap, _∙_}
 use mathlib.Core.Bool.{Bool, true, false, cond}
 use mathlib.Core.List.{List}
 use Prim.Native.Nat.{ℕ, _%_, _/_, _≤_, _<_}
@@ -8,13 +8,15 @@ use lib.Dec.{eqb}
 use lib.ListN.{length}
 use borrow.Author.Tests.{eq-eqb, ne-eqb, eqb-true, eqb-false, lt-ltb}
 use Rattle.laws.specs.facts.Limits.{maxCpus}
+use Rattle.laws.specs.declared.Fault.{Fault}
+use Rattle.laws.specs.answers.Fault.{firstFault}
 use Rattle.laws.specs.facts.First.{Before, First}
 use Rattle.wire.specs.facts.Bytes.{numberSize, numbersIn}
 use Rattle.wire.proofs.ByteLaws.{numbers-length}
 use Rattle.affinity.specs.declared.ListSlot.{ListSlot}
 use Rattle.affinity.specs.facts.List.{listStage, ListRule, SlotRule, SlotDemands}
-use Rattle.affinity.specs.answers.List.{listFault, slotAnswer}
-use Rattle.affinity.proofs.ListLaws.{slot-place-le}
+use Rattle.affinity.specs.answers.List.{firstOutside, listFault, slotAnswer}
+use Rattle.affinity.proofs.ListLaws.{fault-within, slot-place-le}
 use Rattle.affinity.proofs.ListMeans.{slot-meets}
 use Rattle.loader.specs.facts.List.{ByteSlotRule, ByteSlotDemands}
 use Rattle.loader.specs.answers.List.{byteSlot}
@@ -85,6 +87,23 @@ module _ (bytes : List ℕ) (mpidr : ℕ) where
     long many =
         let more : maxCpus < length list = omega (arith, numbers-length bytes) in
         listed (rw (ne-eqb (length list) 0 (λ e. omega arith), lt-ltb maxCpus (length list) more))
+
+    -- one with a bit outside
+    nothing-outside : length list ≡ 0 → firstOutside list .number ≡ 0
+    unfolding firstOutside firstFault
+    nothing-outside e = rw e
+
+    pub outside :
+        length bytes / numberSize ≤ maxCpus →
+        {f : Fault} →
+        f ≡ firstOutside list →
+        (f .number ≡ 0 → ⊥) →
+        Owed (record { number = f .number; place = f .place; slot = 0 })
+    unfolding slotAnswer
+    outside few {f} e ne =
+        let some : length list ≡ 0 → ⊥ = λ z. ne (ap (λ (g : Fault). g .number) e ∙ nothing-outside z) in
+        let told : listFault list ≡ f = fault-within list some (omega (arith, numbers-length bytes)) ∙ sym e in
+        listed (rw (told, ne-eqb (f .number) 0 ne))
 
   -- a place of the list
   pub byte-place : byteSlot mpidr bytes .place ≤ 256

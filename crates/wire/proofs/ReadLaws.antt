@@ -1,17 +1,17 @@
 -- Four bytes of a number, and one number more read behind others. Assumes nothing.
 use mathlib.Core.Path.{_≡_, refl, sym, ap, ap₂, _∙_}
-use mathlib.Core.Logic.{⊎-elim}
 use mathlib.Core.List.{List, [], _∷_, _++_}
-use Prim.Native.Nat.{ℕ, zero, suc, _+_, _*_, _≤_, _<_, min}
+use Prim.Native.Nat.{ℕ, zero, suc, _+_, _*_, _≤_, _<_}
 use native.Mathlib.Nat.{mul-zero, mul-suc, add-comm}
 use native.Mathlib.Numerals.{add-one}
 use native.Mathlib.Omega.{arith}
 use lib.ListN.{length, getD, take, drop, set}
-use lib.Seq.{take-nil, take-append-le, drop-drop, getD-drop}
+use lib.Seq.{take-nil, drop-drop, getD-drop}
+use borrow.Author.Tests.{lt-ltb, le-ltb}
 use Rattle.laws.specs.answers.Listed.{laidOver}
-use Rattle.laws.proofs.SearchLaws.{lt-or-le}
 use Rattle.laws.proofs.OverLaws.{over-push}
 use Rattle.wire.specs.facts.Bytes.{numberOf, held, numberSize}
+use Rattle.wire.specs.answers.Read.{numberAt}
 use Rattle.wire.proofs.ByteLaws.{held-length}
 
 -- the first byte, and the rest
@@ -84,27 +84,19 @@ read-more size k bytes before lt e h =
     ∙ over-push (held size k bytes) before (numberOf (take size (drop (size * k) bytes))) k (held-length size k bytes) lt
     ∙ ap (λ (l : List ℕ). laidOver l before) (sym (held-more size k bytes) ∙ ap (λ (n : ℕ). held size n bytes) (sym (add-one k)))
 
--- the first of the numbers
-held-take : (size c n : ℕ) (bytes : List ℕ) → c ≤ n → take c (held size n bytes) ≡ held size c bytes
+-- a number of those held, by its place
+pub held-at : (size n k : ℕ) (bytes : List ℕ) → k < n → getD (held size n bytes) k 0 ≡ numberOf (take size (drop (size * k) bytes))
 unfolding held
-held-take size zero n bytes le = refl
-held-take size (suc c) zero bytes le = absurd (omega arith)
-held-take size (suc c) (suc n) bytes le = ap (λ (l : List ℕ). numberOf (take size bytes) ∷ l) (held-take size c n (drop size bytes) (omega arith))
+held-at size zero k bytes lt = absurd (omega arith)
+held-at size (suc n) zero bytes lt = rw (mul-zero size)
+held-at size (suc n) (suc k) bytes lt =
+    held-at size n k (drop size bytes) (omega arith) ∙ rw (mul-suc size k, add-comm (size * k) size, ← drop-drop (size * k) size bytes)
 
--- more numbers than there is room for
-held-cut : (size n : ℕ) (bytes before : List ℕ) → length before ≤ n → laidOver (held size n bytes) before ≡ held size (length before) bytes
-unfolding laidOver
-held-cut size n bytes before le =
-    take-append-le (length before) (held size n bytes) (drop (length (held size n bytes)) before) (omega (arith, held-length size n bytes))
-    ∙ held-take size (length before) n bytes le
+-- a number that has its bytes
+pub number-there : (bytes : List ℕ) (at : ℕ) → at + numberSize ≤ length bytes → numberAt bytes at ≡ numberOf (take numberSize (drop at bytes))
+unfolding numberAt
+number-there bytes at le = rw (le-ltb (length bytes) (at + numberSize) le)
 
--- no more numbers than fit are read
-pub held-fits :
-    (size count n : ℕ) (bytes before : List ℕ) →
-    count ≡ min n (length before) →
-    laidOver (held size count bytes) before ≡ laidOver (held size n bytes) before
-held-fits size count n bytes before e =
-    ⊎-elim
-    (λ lt. let all : count ≡ n = omega (arith, e) in ap (λ (m : ℕ). laidOver (held size m bytes) before) all)
-    (λ le. held-cut size count bytes before (omega (arith, e)) ∙ sym (held-cut size n bytes before le))
-    (lt-or-le n (length before))
+pub number-missing : (bytes : List ℕ) (at : ℕ) → length bytes < at + numberSize → numberAt bytes at ≡ 0
+unfolding numberAt
+number-missing bytes at lt = rw (lt-ltb (length bytes) (at + numberSize) lt)

@@ -1,2 +1,3 @@
 -- What public contracts equate their results with.
 pub mod Put
+pub mod Read

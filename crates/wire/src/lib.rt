@@ -3,7 +3,7 @@ mod put;
 mod read;
 
 pub use put::put_words;
-pub use read::read_numbers;
+pub use read::number_at;
 
 // The bytes of a word of 32 bits.
 pub const WORD_BYTES: usize = 4;

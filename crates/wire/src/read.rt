@@ -1,11 +1,10 @@
 // Reading numbers.
 use crate::NUMBER_BYTES;
-use laws::at_most;
 ghost use mathlib.Core.Path.{_≡_};
 ghost use Prim.Native.Nat.{_+_, _*_, _≤_};
 ghost use lib.ListN.{length, take, drop};
-ghost use Rattle.laws.specs.answers.Listed.{laidOver};
-ghost use Rattle.wire.specs.facts.Bytes.{numberSize, numberOf, numbersIn};
+ghost use Rattle.wire.specs.facts.Bytes.{numberSize, numberOf};
+ghost use Rattle.wire.specs.answers.Read.{numberAt};
 
 // The number of four bytes, lowest first.
 fn joined(a: u8, b: u8, c: u8, d: u8) -> u64
@@ -14,8 +13,8 @@ fn joined(a: u8, b: u8, c: u8, d: u8) -> u64
     a as u64 + 256 * b as u64 + 65536 * c as u64 + 16777216 * d as u64
 }
 
-// The number in the eight bytes from `at` on.
-fn number_at(bytes: &[u8], at: usize) -> u64
+// The number in eight bytes of a list that has them.
+fn number_from(bytes: &[u8], at: usize) -> u64
     requires { ⌜ at + numberSize ≤ length (now bytes) ⌝ }
     ensures { λ r. ⌜ r ≡ numberOf (take numberSize (drop at (now (bytes .entry)))) ⌝ }
 {
@@ -24,15 +23,15 @@ fn number_at(bytes: &[u8], at: usize) -> u64
     low + 4294967296 * high
 }
 
-// Reads the numbers that bytes hold into the front of a list, as many as fit. `left` numbers are still to be read.
-pub fn read_numbers(bytes: &[u8], numbers: &mut [u64])
-    ensures { λ _. ⌜ now (numbers .exit) ≡ laidOver (numbersIn (now (bytes .entry))) (now (numbers .entry)) ⌝ }
+// The number in the eight bytes from `at` on; 0 where there are fewer.
+pub fn number_at(bytes: &[u8], at: usize) -> u64
+    ensures { λ r. ⌜ r ≡ numberAt (now (bytes .entry)) at ⌝ }
 {
-    let count = at_most(bytes.len() / NUMBER_BYTES, numbers.len());
-    let mut left = count;
-    while 0 < left {
-        let k = count - left;
-        numbers[k] = number_at(bytes, NUMBER_BYTES * k);
-        left -= 1;
+    if bytes.len() < NUMBER_BYTES {
+        return 0;
     }
+    if bytes.len() - NUMBER_BYTES < at {
+        return 0;
+    }
+    number_from(bytes, at)
 }

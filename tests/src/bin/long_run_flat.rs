@@ -1,8 +1,11 @@
-//! Compares the readers on many blobs, or on one again.
+//! Compares the readers on many blobs, or on one again. With the feature
+//! `loader` the blob call reads each of them too, and one of its own mixture,
+//! mostly boards, beside each.
 //!
 //! long_run_flat [--blobs N] [--seed S]
 //! long_run_flat --replay FILE
 
+use blob_call::BlobCall;
 use std::process::exit;
 use std::time::Instant;
 use sunderwath_tests::build::flat_case::{read_text, FlatCase};
@@ -11,6 +14,80 @@ use sunderwath_tests::build::flat_mix::any_case;
 use sunderwath_tests::compare_flat::{compare_flat, Counts};
 use sunderwath_tests::rng::Rng;
 use sunderwath_tests::second::{flat_answer, REASONS};
+
+/// The blob call on the blobs of the run, and on a mixture of its own.
+#[cfg(feature = "loader")]
+mod blob_call {
+    use sunderwath_tests::answer::{Answer, SHORT_ANSWER};
+    use sunderwath_tests::build::loader::{any_blob, some_lent, Lent};
+    use sunderwath_tests::compare_blob::compare_blob;
+    use sunderwath_tests::counts::{blob_numbers, Counts};
+    use sunderwath_tests::rng::Rng;
+
+    pub struct BlobCall {
+        rng: Rng,
+        counts: Counts,
+    }
+
+    impl BlobCall {
+        pub fn new(seed: u64) -> BlobCall {
+            BlobCall {
+                rng: Rng::new(!seed),
+                counts: Counts::default(),
+            }
+        }
+
+        pub fn compare(&mut self, blob: &[u8]) -> Result<(), String> {
+            let lent = some_lent(&mut self.rng, 64, 2);
+            self.compare_with(blob, lent)?;
+            let (blob, lent) = any_blob(&mut self.rng);
+            self.compare_with(&blob, lent)
+        }
+
+        fn compare_with(&mut self, blob: &[u8], lent: Lent) -> Result<(), String> {
+            let short = Answer::refusal(SHORT_ANSWER, 0);
+            let answer = compare_blob(blob, lent)?.answer;
+            self.counts.add(&answer.unwrap_or(short));
+            Ok(())
+        }
+
+        pub fn lines(&self) -> String {
+            format!("blob call:\n{}\n", self.counts.lines_of(blob_numbers()))
+        }
+    }
+
+    /// A report of the blob call again, if the text is one.
+    pub fn replay(text: &str, blob: &[u8]) -> Result<(), String> {
+        if let Some(lent) = Lent::of_text(text) {
+            let told = compare_blob(blob, lent)?;
+            println!("the blob call agrees: {:?}", told.words());
+        }
+        Ok(())
+    }
+}
+
+#[cfg(not(feature = "loader"))]
+mod blob_call {
+    pub struct BlobCall;
+
+    impl BlobCall {
+        pub fn new(_: u64) -> BlobCall {
+            BlobCall
+        }
+
+        pub fn compare(&mut self, _: &[u8]) -> Result<(), String> {
+            Ok(())
+        }
+
+        pub fn lines(&self) -> String {
+            String::new()
+        }
+    }
+
+    pub fn replay(_: &str, _: &[u8]) -> Result<(), String> {
+        Ok(())
+    }
+}
 
 struct Options {
     blobs: u64,
@@ -47,6 +124,7 @@ fn options() -> Option<Options> {
 fn replay(file: &str) -> Result<(), String> {
     let content = std::fs::read_to_string(file).map_err(|e| format!("{file}: {e}"))?;
     let case = read_text(&content).map_err(|e| format!("{file}: {e}"))?;
+    blob_call::replay(&content, &case.blob)?;
     let read = compare_flat(&case)?;
     println!(
         "the readers agree: {:?} {:?}",
@@ -76,6 +154,7 @@ fn run(options: &Options) -> Result<(), String> {
     let Options { blobs, seed, .. } = *options;
     let mut rng = Rng::new(seed);
     let mut counts = Counts::new();
+    let mut blob_call = BlobCall::new(seed);
     let start = Instant::now();
     println!("{blobs} blobs, seed {seed:#x}");
     let mut large = flat_large::all().into_iter().cycle();
@@ -86,6 +165,8 @@ fn run(options: &Options) -> Result<(), String> {
             (case.nodes, case.props) = (3 * 8192, 5 * 5461);
         }
         compare_one(&case, seed, at, &mut counts)?;
+        let told = blob_call.compare(&case.blob);
+        told.map_err(|report| save(report, seed, at))?;
         if (at + 1) % 50_000 == 0 {
             println!("{} blobs after {:?}", at + 1, start.elapsed());
         }
@@ -97,6 +178,7 @@ fn run(options: &Options) -> Result<(), String> {
             println!("{number} {why:?}: {count}");
         }
     }
+    print!("{}", blob_call.lines());
     println!("no disagreement on {blobs} blobs");
     Ok(())
 }

@@ -30,7 +30,7 @@ pub fn any_case(rng: &mut Rng) -> FlatCase {
     FlatCase { blob, nodes, props }
 }
 
-fn some_form(rng: &mut Rng) -> Form {
+pub(super) fn some_form(rng: &mut Rng) -> Form {
     let places = [
         Strings::Behind,
         Strings::Behind,
@@ -62,7 +62,7 @@ fn some_item(rng: &mut Rng) -> Item {
     }
 }
 
-fn spoil_items(rng: &mut Rng, list: &mut Vec<Item>) {
+pub(super) fn spoil_items(rng: &mut Rng, list: &mut Vec<Item>) {
     let (at, other) = (rng.below(list.len()), rng.below(list.len()));
     match rng.below(9) {
         0 if list.len() > 1 => drop(list.remove(at)),
@@ -86,7 +86,7 @@ fn rename(rng: &mut Rng, list: &mut [Item]) {
 }
 
 /// NOPs before the end token, which change nothing.
-fn add_nops(rng: &mut Rng, list: &mut Vec<Item>) {
+pub(super) fn add_nops(rng: &mut Rng, list: &mut Vec<Item>) {
     for _ in 0..rng.below(6) {
         let end = list.iter().position(|item| *item == Item::End);
         let at = rng.below(end.unwrap_or(list.len()) + 1);
@@ -110,7 +110,7 @@ fn some_word(rng: &mut Rng, old: u32, length: usize) -> u32 {
 }
 
 /// One change to the bytes. Blobs shorter than a header stay.
-fn spoil_bytes(rng: &mut Rng, blob: &mut Vec<u8>) {
+pub(super) fn spoil_bytes(rng: &mut Rng, blob: &mut Vec<u8>) {
     if blob.len() < HEADER_BYTES {
         return;
     }

@@ -12,6 +12,8 @@ pub mod flat_form;
 pub mod flat_large;
 pub mod flat_mix;
 pub mod flat_trees;
+pub mod loader;
+pub mod loader_faults;
 pub mod lookup;
 pub mod mix;
 pub mod order;

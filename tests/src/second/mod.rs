@@ -1,7 +1,9 @@
 //! The second reader, written from the papers alone. Each rule is said of
 //! records by quantifiers, and the answer is the least (stage, place, number).
-//! Blobs are read over a list of tokens, in the files `flat*.rs`.
+//! Blobs are read over a list of tokens, in the files `flat*.rs`; the calls on
+//! bytes in `bytes.rs` put these readings together.
 
+mod bytes;
 mod flat;
 mod flat_records;
 mod flat_stream;
@@ -15,6 +17,7 @@ mod second_place;
 mod slots;
 mod tables;
 
+pub use bytes::{list_bytes, read_blob, slot, Told, BYTES_ANSWER, MOST_NODES, MOST_PROPERTIES};
 pub use flat::{flat_answer, flat_tables, read_flat, word_at, FlatTables, Reading, Refusal};
 pub use flat_why::{Why, REASONS};
 pub use hash::{list_hash, list_slot};

@@ -1,10 +1,9 @@
 -- `read` surveys, checks the rooms, and writes. Assumes nothing.
-use mathlib.Core.Path.{_≡_, sym}
-use mathlib.Core.List.{List}
-use Prim.Native.Nat.{ℕ, _≤_}
+use mathlib.Core.Path.{sym}
+use Prim.Native.Nat.{_≤_}
 use lib.ListN.{length}
 use lib.Seq.{length-take-le}
-use Rattle.tables.specs.facts.Board.{Board, board}
+use Rattle.tables.specs.facts.Board.{board}
 use Rattle.board.proofs.JoinLaws.{cpus-within, leaves-within, met}
 use borrow.Author.Needs.{needs}
 use Rattle.board.proofs.read.read.Statement.{statement}
@@ -63,7 +62,9 @@ returns c =
     let checked = wrote .before .before .before .before .before in
     let call = checked .before .before in
     let a = call .before .before .before .before .before .before .before .before .before .args in
-    met (call .survey .ensures .0) (call .survey .ensures .1) (length (a .rows .now)) (a .asked) (checked .check-rooms .ensures) (a .rows .now)
+    let b = board (a .width) (a .nodes .now) (a .props .now) (a .pool .now) in
+    met {b = b} (call .survey .ensures .0) (call .survey .ensures .1) (length (a .rows .now)) (a .asked) (checked .check-rooms .ensures)
+    (a .rows .now)
     (wrote .write .ensures)
 
 pub read-spec : {M : Type 1} → statement M

@@ -28,7 +28,7 @@ use Rattle.cpumap.specs.answers.Find.{mapOf, mapScan}
 use Rattle.leaves.specs.answers.Scan.{Tree, lentTree, leavesFault, treeScan, leavesOver, namedOver, treeOf, leavesOf, namedOf}
 use Rattle.leaves.proofs.ScanLaws.{leaves-listed, named-listed}
 use Rattle.demands.specs.answers.Survey.{surveyFault}
-use Rattle.board.proofs.FrontLaws.{front-fits, front-size, front-is}
+use Rattle.laws.proofs.FrontLaws.{front-fits, front-size, front-is}
 use Rattle.board.proofs.ReadLaws.{map-root}
 use Rattle.board.proofs.SurveyLaws.{counted-all, listed-all, mapStage, fromPhandles, fromMap, fromCpus, fromCount, fromRoot}
 use Rattle.board.proofs.SurveyLaws.{survey-stages, tells, tells-first, clears, numbers-stage, numbers-found, tree-is}

@@ -1,5 +1,6 @@
 //! Time of a whole board: the library, the fast version and, with the feature
-//! `fdt`, a reader over libfdt that starts from a blob.
+//! `fdt`, a reader over libfdt that starts from a blob. With the feature `loader`
+//! the blob call too, beside peers that start from a blob as well.
 
 use std::hint::black_box;
 use sunderwath_tests::answer::ANSWER_WORDS;
@@ -8,6 +9,9 @@ use sunderwath_tests::build::shapes::{fill_up, regular_board};
 use sunderwath_tests::build::{Board, Node, FULL_ROOM};
 use sunderwath_tests::timing::best_ns;
 use sunderwath_tests::{fast, ffi};
+
+#[cfg(feature = "loader")]
+mod blob_call;
 
 #[cfg(feature = "fdt")]
 mod fdt {
@@ -111,4 +115,6 @@ fn main() {
     let mut worst = regular_board(256);
     fill_up(&mut worst, 1024, 4096);
     measure("256 cpus, full tables", &worst, 2);
+    #[cfg(feature = "loader")]
+    blob_call::run();
 }

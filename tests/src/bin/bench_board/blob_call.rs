@@ -1,0 +1,119 @@
+//! Time of a blob to rows, in turns: the blob call, the fast version with its
+//! rows copied to bytes and, with the feature `fdt`, the reader over libfdt.
+
+use std::hint::black_box;
+use sunderwath_tests::build::shapes::regular_board;
+use sunderwath_tests::build::{blob, FULL_ROOM};
+use sunderwath_tests::second::{BYTES_ANSWER, MOST_NODES, MOST_PROPERTIES};
+use sunderwath_tests::timing::best_in_turns;
+use sunderwath_tests::{fast, ffi};
+
+const ROUNDS: usize = 25;
+const WIDTH: u32 = 64;
+
+/// Each cpu of a regular board has six properties with its leaf, `/cpus` two.
+const MOST_CPUS: usize = (MOST_PROPERTIES - 2) / 6;
+
+/// What a reader is lent, and whether it has read the blob each time.
+struct Lent {
+    nodes: Vec<u32>,
+    props: Vec<u32>,
+    words: Vec<u32>,
+    rows: Vec<u8>,
+    read: bool,
+}
+
+impl Lent {
+    fn new() -> Lent {
+        Lent {
+            nodes: vec![0; 3 * MOST_NODES],
+            props: vec![0; 5 * MOST_PROPERTIES],
+            words: vec![0; FULL_ROOM],
+            rows: vec![0; 4 * FULL_ROOM],
+            read: true,
+        }
+    }
+
+    fn library(&mut self, blob: &[u8]) {
+        let mut answer = [0; BYTES_ANSWER];
+        let number = ffi::read_blob_into(WIDTH, blob, &mut self.rows, black_box(&mut answer));
+        self.read &= number == 0;
+    }
+
+    fn fast(&mut self, blob: &[u8]) {
+        let Lent { nodes, props, .. } = self;
+        let answer = fast::read_blob(WIDTH, blob, nodes, props, &mut self.words);
+        self.read &= answer.number == 0;
+        self.copy_rows(12 * answer.count as usize);
+    }
+
+    /// Writes the first words of the rows as little-endian bytes.
+    fn copy_rows(&mut self, words: usize) {
+        let places = self.rows.as_chunks_mut().0.iter_mut();
+        for (place, word) in places.zip(&self.words[..words]) {
+            *place = word.to_le_bytes();
+        }
+    }
+
+    #[cfg(feature = "fdt")]
+    fn libfdt(&mut self, blob: &[u8]) {
+        let mut answer = [0; sunderwath_tests::answer::ANSWER_WORDS];
+        self.read &= sunderwath_tests::fdt::read(blob, false, &mut self.words, &mut answer);
+    }
+
+    #[cfg(not(feature = "fdt"))]
+    fn libfdt(&mut self, _: &[u8]) {}
+}
+
+/// Nanoseconds of the blob call, the fast version and the reader over libfdt,
+/// which all write the same rows.
+fn times(blob: &[u8], calls: usize) -> Vec<f64> {
+    let (mut ours, mut peer, mut libfdt) = (Lent::new(), Lent::new(), Lent::new());
+    let times = best_in_turns(
+        ROUNDS,
+        calls,
+        &mut [
+            &mut || black_box(&mut ours).library(black_box(blob)),
+            &mut || black_box(&mut peer).fast(black_box(blob)),
+            &mut || black_box(&mut libfdt).libfdt(black_box(blob)),
+        ],
+    );
+    assert!(ours.read && peer.read && libfdt.read, "each reads the blob");
+    assert_eq!(ours.rows, peer.rows, "rows of the fast version");
+    if cfg!(feature = "fdt") {
+        libfdt.copy_rows(FULL_ROOM);
+        assert_eq!(ours.rows, libfdt.rows, "rows of the reader over libfdt");
+    }
+    times
+}
+
+fn measure(cpus: usize, calls: usize) {
+    let blob = blob::write(&regular_board(cpus));
+    let times = times(&blob, calls);
+    let (ours, peers) = (times[0], &times[1..]);
+    let name = format!("{cpus} cpus");
+    print!("{name:<22} {:>8} {:>12.2}", blob.len(), ours / 1000.0);
+    for (at, peer) in peers.iter().enumerate() {
+        match at == 0 || cfg!(feature = "fdt") {
+            true => print!(" {:>12.2} {:>8.2}", peer / 1000.0, ours / peer),
+            false => print!(" {:>12} {:>8}", "-", "-"),
+        }
+    }
+    println!();
+}
+
+pub fn run() {
+    println!(
+        "blob to rows, microseconds, best of {ROUNDS} in turns; each ratio is blob call / peer"
+    );
+    println!(
+        "fast: the rows copied to bytes; libfdt: few checks, rows of words, own table of phandles"
+    );
+    println!(
+        "{:<22} {:>8} {:>12} {:>12} {:>8} {:>12} {:>8}",
+        "board", "bytes", "blob call", "fast", "ratio", "libfdt", "ratio"
+    );
+    for (cpus, calls) in [(4, 1000), (16, 250), (64, 50), (128, 25), (MOST_CPUS, 15)] {
+        measure(cpus, calls);
+    }
+}

@@ -1,0 +1,39 @@
+//! The boards in `boards/`, compiled with dtc.
+
+use std::path::{Path, PathBuf};
+use std::process::Command;
+
+/// Each `.dts` file, by name.
+pub fn sources() -> Vec<PathBuf> {
+    let folder = Path::new(env!("CARGO_MANIFEST_DIR")).join("../boards");
+    let files = std::fs::read_dir(folder).expect("boards/ can be read");
+    let mut list: Vec<PathBuf> = files
+        .map(|file| file.expect("boards/ can be read").path())
+        .filter(|path| path.extension().is_some_and(|e| e == "dts"))
+        .collect();
+    list.sort();
+    list
+}
+
+/// Options that change a blob's layout and not its tree.
+pub const LAYOUTS: [&[&str]; 4] = [&["-R", "3"], &["-p", "77"], &["-S", "8192"], &["-b", "1"]];
+
+pub fn compiled(source: &Path, options: &[&str]) -> Vec<u8> {
+    let mut command = Command::new("dtc");
+    command.args(["-q", "-I", "dts", "-O", "dtb"]).args(options);
+    let output = command.arg(source).output().expect("dtc can be started");
+    assert!(output.status.success(), "{}", source.display());
+    output.stdout
+}
+
+/// The number that boards/README.md says is told of a board.
+pub fn number_of(source: &Path) -> u32 {
+    let name = source.file_stem().expect("it has a name").to_string_lossy();
+    match name.strip_prefix("refused-") {
+        Some(rest) => rest[..2].parse().expect("two digits"),
+        None if name == "example3" => 24,
+        None if name == "example3-corrected" => 25,
+        None if name == "example3-no-phandle" => 17,
+        None => 0,
+    }
+}
