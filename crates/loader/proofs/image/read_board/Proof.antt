@@ -1,12 +1,11 @@
 -- `read_board` reads with the rows in place of the properties, and writes them as bytes. Assumes nothing.
-use mathlib.Core.Path.{_≡_, sym, ap, _∙_}
-use Prim.Native.Nat.{ℕ, _*_, _/_, _≤_, min}
+use mathlib.Core.Path.{sym}
+use Prim.Native.Nat.{_*_, _≤_}
 use native.Mathlib.Omega.{arith}
 use lib.ListN.{length, take}
 use lib.Seq.{length-take-le}
 use Rattle.layout.specs.facts.Row.{rowSize}
 use Rattle.tables.specs.facts.Board.{Board, WordSized, board}
-use Rattle.demands.specs.declared.BoardAnswer.{BoardAnswer}
 use Rattle.demands.proofs.BoundLaws.{answer-count}
 use Rattle.loader.proofs.RowLaws.{part-words, read-bytes}
 use borrow.Author.Needs.{needs}
@@ -35,7 +34,7 @@ module _ (c : tie.After-read-in-place) where
   known = c .before .before
 
   few : c .read-in-place .result .count ≤ 256
-  few = rw (c .read-in-place .ensures .0) (answer-count (theBoard known) (min (length (start known .args .rows .now) / 4) (length (start known .args .table .now))))
+  few = rw (c .read-in-place .ensures .0) (answer-count (theBoard known) _)
 
   rows-in : rowSize * c .read-in-place .result .count ≤ length (c .read-in-place .last .1 .1 .0)
   rows-in = omega (arith, few, c .read-in-place .kept .1 .1 .0, start known .pre)
