@@ -67,28 +67,26 @@ module _
     mpidrs-front : take (s .cpus) mpidrs ≡ mpidrList b
     mpidrs-front = front-is _ _ (lists .mpidrs-laid) mpidr-size few-mpidrs
 
-  -- the counts lie within the arrays: no more than they hold, or none where the survey stopped
-  pub cpus-within : (s .cpus ≤ length cpus) × (s .cpus ≤ length mpidrs)
-  cpus-within = go (eqb (surveyFault b .number) 0) refl
+  -- a count lies within an array: it is that of what the array holds, or 0 where the survey stopped
+  in-array :
+      {n : ℕ} (array : List ℕ) → (surveyFault b .number ≡ 0 → n ≤ length array) → ((surveyFault b .number ≡ 0 → ⊥) → n ≡ 0) → n ≤ length array
+  in-array {n} array clear stop = go (eqb (surveyFault b .number) 0) refl
     where
-      go : (t : Bool) → eqb (surveyFault b .number) 0 ≡ t → (s .cpus ≤ length cpus) × (s .cpus ≤ length mpidrs)
-      go true e =
-          let z = eqb-true (surveyFault b .number) 0 e in
-          (front-fits _ _ (lists z .cpus-laid) (cpu-size z) (few z), front-fits _ _ (lists z .mpidrs-laid) (mpidr-size z) (few-mpidrs z))
-      go false e =
-          let none = stops b found (eqb-false (surveyFault b .number) 0 e) .0 in
-          (omega (arith, none), omega (arith, none))
+      go : (t : Bool) → eqb (surveyFault b .number) 0 ≡ t → n ≤ length array
+      go true e = clear (eqb-true (surveyFault b .number) 0 e)
+      go false e = omega (arith, stop (eqb-false (surveyFault b .number) 0 e))
+
+  pub cpus-within : (s .cpus ≤ length cpus) × (s .cpus ≤ length mpidrs)
+  cpus-within = (
+    in-array cpus (λ z. front-fits _ _ (lists z .cpus-laid) (cpu-size z) (few z)) (λ ne. stops b found ne .0),
+    in-array mpidrs (λ z. front-fits _ _ (lists z .mpidrs-laid) (mpidr-size z) (few-mpidrs z)) (λ ne. stops b found ne .0),
+  )
 
   pub leaves-within : (s .leaves ≤ length leaves) × (s .leaves ≤ length named)
-  leaves-within = go (eqb (surveyFault b .number) 0) refl
-    where
-      go : (t : Bool) → eqb (surveyFault b .number) 0 ≡ t → (s .leaves ≤ length leaves) × (s .leaves ≤ length named)
-      go true e =
-          let z = eqb-true (surveyFault b .number) 0 e in
-          (front-fits _ _ (lists z .leaves-laid) (leaf-size z) (few-leaves z), front-fits _ _ (lists z .named-laid) (named-size z) (few-named z))
-      go false e =
-          let none = stops b found (eqb-false (surveyFault b .number) 0 e) .1 in
-          (omega (arith, none), omega (arith, none))
+  leaves-within = (
+    in-array leaves (λ z. front-fits _ _ (lists z .leaves-laid) (leaf-size z) (few-leaves z)) (λ ne. stops b found ne .1),
+    in-array named (λ z. front-fits _ _ (lists z .named-laid) (named-size z) (few-named z)) (λ ne. stops b found ne .1),
+  )
 
   -- what was checked of a room of so many words
   module _ (room : ℕ) (asked : Asked) {c : Checked} (checked : c ≡ checkedOf s (take (s .cpus) mpidrs) room asked) where

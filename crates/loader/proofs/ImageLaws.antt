@@ -1,33 +1,34 @@
 -- What the call on a blob owes, by what its two parts promise: the reading of the blob, and that of the board. Assumes nothing.
 use mathlib.Core.Path.{_≡_, refl, sym, ap, ap₂, _∙_}
-use mathlib.Core.List.{List, _++_}
+use mathlib.Core.List.{List}
 use Prim.Native.Nat.{ℕ, _*_, _/_, _^_, _≤_, _<_}
 use native.Mathlib.Omega.{arith}
-use lib.ListN.{length, getD, take, drop}
+use lib.ListN.{length, take, drop}
 use lib.Seq.{take-at}
 use borrow.Author.Tests.{eq-eqb, ne-eqb}
 use Rattle.laws.specs.facts.Limits.{noParent}
 use Rattle.laws.specs.facts.First.{stageIn}
 use Rattle.laws.specs.answers.Fault.{plain}
-use Rattle.laws.specs.answers.Listed.{laidOver}
 use Rattle.laws.proofs.FirstLaws.{first-unique}
-use Rattle.laws.proofs.OverLaws.{over-length, over-front}
+use Rattle.laws.specs.answers.Listed.{laidOver}
+use Rattle.laws.proofs.FrontLaws.{front-fits, front-is}
 use Rattle.wire.specs.facts.Bytes.{wordSize, wordsIn}
-use Rattle.tables.specs.facts.Board.{Board, board}
+use Rattle.tables.specs.facts.Board.{board}
 use Rattle.header.specs.facts.Header.{blocksOf}
-use Rattle.stream.specs.facts.Tree.{Nodes, nodeWords, propWords}
+use Rattle.stream.specs.facts.Tree.{nodeWords, propWords}
 use Rattle.flat.specs.declared.BlobAnswer.{BlobAnswer}
 use Rattle.flat.specs.facts.Rules.{BlobRule, BlobTold, blobStages}
 use Rattle.flat.specs.facts.Reading.{BlobReading, BlobAccepted, AtFront}
 use Rattle.flat.specs.facts.Tables.{boardOf}
+use Rattle.flat.specs.answers.Fill.{Filled}
 use Rattle.flat.specs.answers.Answer.{blobAnswer, filledIn, nodesAfter, propsAfter}
 use Rattle.flat.proofs.Claim.{room, counted}
 use Rattle.demands.specs.declared.BoardAnswer.{BoardAnswer}
 use Rattle.demands.specs.facts.Words.{Words}
 use Rattle.demands.specs.facts.Reading.{Demands}
-use Rattle.demands.specs.answers.Answer.{refusedWith, boardFault, answerOf}
+use Rattle.demands.specs.answers.Answer.{refusedWith, answerOf}
 use Rattle.demands.proofs.BoundLaws.{board-words}
-use Rattle.loader.specs.facts.Image.{nodeRoom, propRoom, ReadBoard, ImageDemands}
+use Rattle.loader.specs.facts.Image.{nodeRoom, propRoom, ImageDemands}
 use Rattle.loader.specs.answers.Image.{blobFound, boardIn, rowBytes, imageAnswer, imageRows}
 use Rattle.loader.proofs.RowLaws.{Bytes, bytes-rest, bytes-size, bytes-kept}
 
@@ -62,7 +63,9 @@ module _
   -- a refused blob
   module _ (ne : found .number ≡ 0 → ⊥) where
     refusal : {n p : ℕ} → BlobTold blob nodeRoom propRoom n p → (n ≡ found .number) × (p ≡ found .place)
-    refusal {n} {p} told = first-unique (stageIn blobStages) (BlobRule blob (length nodes) (length props)) n p (found .number) (found .place) (sized-told told) (reading .refused ne .first)
+    refusal {n} {p} told =
+        first-unique (stageIn blobStages) (BlobRule blob (length nodes) (length props)) n p (found .number) (found .place) (sized-told told)
+        (reading .refused ne .first)
 
     pub refuses : {r : BoardAnswer} → found .place < 2 ^ 32 → r ≡ refusedWith (plain (found .number) (found .place)) → Owed r before
     unfolding imageAnswer imageRows
@@ -115,22 +118,32 @@ module _
     blob-clear : blobAnswer blob (length nodes) (length props) .number ≡ 0
     blob-clear = ap (λ (a : BlobAnswer). a .number) (sym is) ∙ z
 
-    nodes-filled : node-front ≡ filledIn (blocksOf blob) .nodes
-    unfolding nodesAfter
-    nodes-filled =
-        let fits = room blob nodes props blob-clear .0 in
-        let count = ap (λ (a : BlobAnswer). 3 * a .nodes) is ∙ counted blob nodes props blob-clear .0 in
-        ap₂ (λ (n : ℕ) (l : List ℕ). take n l) count (rw (eq-eqb _ 0 blob-clear) at nodes-are) ∙ over-front (filledIn (blocksOf blob) .nodes) nodes fits
+    abbrev records : Filled
+    records = filledIn (blocksOf blob)
 
-    props-filled : prop-front ≡ filledIn (blocksOf blob) .props
+    nodes-laid : nodes′ ≡ laidOver (records .nodes) nodes
+    unfolding nodesAfter
+    nodes-laid = rw (eq-eqb _ 0 blob-clear) at nodes-are
+
+    props-laid : props′ ≡ laidOver (records .props) props
     unfolding propsAfter
-    props-filled =
-        let fits = room blob nodes props blob-clear .1 in
-        let count = ap (λ (a : BlobAnswer). 5 * a .props) is ∙ counted blob nodes props blob-clear .1 in
-        ap₂ (λ (n : ℕ) (l : List ℕ). take n l) count (rw (eq-eqb _ 0 blob-clear) at props-are) ∙ over-front (filledIn (blocksOf blob) .props) props fits
+    props-laid = rw (eq-eqb _ 0 blob-clear) at props-are
+
+    fits : (length (records .nodes) ≤ length nodes) × (length (records .props) ≤ length props)
+    fits = room blob nodes props blob-clear
+
+    node-count : 3 * found .nodes ≡ length (records .nodes)
+    node-count = ap (λ (a : BlobAnswer). 3 * a .nodes) is ∙ counted blob nodes props blob-clear .0
+
+    prop-count : 5 * found .props ≡ length (records .props)
+    prop-count = ap (λ (a : BlobAnswer). 5 * a .props) is ∙ counted blob nodes props blob-clear .1
+
+    pub nodes-fit : 3 * found .nodes ≤ length nodes′
+    nodes-fit = front-fits (records .nodes) nodes nodes-laid node-count (fits .0)
 
     board-in : board width node-front prop-front blob ≡ boardIn width blob
-    board-in = rw (nodes-filled, props-filled)
+    board-in =
+        rw (front-is (records .nodes) nodes nodes-laid node-count (fits .0), front-is (records .props) props props-laid prop-count (fits .1))
 
     pub reads :
         Bytes before →
@@ -162,10 +175,3 @@ module _
             ),
           ),
         )
-
-    pub nodes-fit : 3 * found .nodes ≤ length nodes′
-    unfolding nodesAfter
-    nodes-fit =
-        let filled = filledIn (blocksOf blob) .nodes in
-        let count = ap (λ (a : BlobAnswer). 3 * a .nodes) is ∙ counted blob nodes props blob-clear .0 in
-        rw (rw (eq-eqb _ 0 blob-clear) at nodes-are, over-length filled nodes) (omega (arith, count, room blob nodes props blob-clear .0))

@@ -44,7 +44,13 @@ written-size s before =
     let n = length (s .leaves) in
     ⊎-elim
     (λ short. rw (lt-ltb (length before) (rowSize * n) short))
-    (λ room. rw (le-ltb (length before) (rowSize * n) room, length-append (rowsBelow s n) (drop (rowSize * n) before), rows-length s n, length-drop (rowSize * n) before) (omega arith))
+    (λ room.
+    rw (
+      le-ltb (length before) (rowSize * n) room,
+      length-append (rowsBelow s n) (drop (rowSize * n) before),
+      rows-length s n,
+      length-drop (rowSize * n) before,
+    ) (omega arith))
     (lt-or-le (length before) (rowSize * n))
 
 module _ (b : Board) (before : List ℕ) where
@@ -118,7 +124,9 @@ module _ {b : Board} (sized : WordSized b) (bytes : List ℕ) (small : Bytes byt
   held = wordsIn bytes
 
   -- an acceptance writes the rows, at the front of a table that has room for them
-  module _ (z : told b bytes small .number ≡ 0) (table : List ℕ) (enough : rowSize * maxCpus ≤ length table) (table-small : Words (written (sourceOf b) table)) where
+  module _
+      (z : told b bytes small .number ≡ 0)
+      (table : List ℕ) (enough : rowSize * maxCpus ≤ length table) (table-small : Words (written (sourceOf b) table)) where
     abbrev s : Source
     s = sourceOf b
 
@@ -144,7 +152,8 @@ module _ {b : Board} (sized : WordSized b) (bytes : List ℕ) (small : Bytes byt
     unfolding rowsAfter written
     after-is =
         let same = rows-length s (leafCount b) in
-        rw (words-told b bytes small, eq-eqb (told b bytes small .number) 0 z, le-ltb (length held) (rowSize * leafCount b) (omega (arith, many)), same)
+        let has-room = le-ltb (length held) (rowSize * leafCount b) (omega (arith, many)) in
+        rw (words-told b bytes small, eq-eqb (told b bytes small .number) 0 z, has-room, same)
 
     rows-small : Words rows
     rows-small = rw rows-made at (part-words (rowSize * cpuCount b) (written s table) table-small)
@@ -201,4 +210,5 @@ module _ {b : Board} (sized : WordSized b) (bytes : List ℕ) (small : Bytes byt
         go false e =
             let ne = eqb-false (told b bytes small .number) 0 e in
             let counted = count-is {n = 0} (rw e) in
-            owed is (counted ∙ nothing b bytes small ne ∙ sym (bytes-same b bytes small ne)) (ap (λ (l : List ℕ). wordsIn l) (bytes-same b bytes small ne) ∙ sym (after-same b bytes small ne))
+            let same = bytes-same b bytes small ne in
+            owed is (counted ∙ nothing b bytes small ne ∙ sym same) (ap (λ (l : List ℕ). wordsIn l) same ∙ sym (after-same b bytes small ne))

@@ -10,7 +10,7 @@ use borrow.Author.Tests.{eq-eqb, ne-eqb, eqb-true, eqb-false, lt-ltb}
 use Rattle.laws.specs.facts.Limits.{maxCpus}
 use Rattle.laws.specs.declared.Fault.{Fault}
 use Rattle.laws.specs.answers.Fault.{firstFault}
-use Rattle.laws.specs.facts.First.{Before, First}
+use Rattle.laws.specs.facts.First.{Before}
 use Rattle.wire.specs.facts.Bytes.{numberSize, numbersIn}
 use Rattle.wire.proofs.ByteLaws.{numbers-length}
 use Rattle.affinity.specs.declared.ListSlot.{ListSlot}

@@ -1,15 +1,13 @@
 -- Numbers in bytes: how long they are, and that each way reads back what the other wrote. Assumes nothing.
 use mathlib.Core.Path.{_≡_, refl, sym, ap, ap₂, _∙_}
-use mathlib.Core.Logic.{⊎-elim}
 use mathlib.Core.List.{List, [], _∷_, _++_, append-assoc}
 use Prim.Native.Nat.{ℕ, zero, suc, _+_, _*_, _-_, _/_, _%_, _^_, _≤_, _<_}
-use native.Mathlib.Nat.{mul-zero, mul-suc, add-comm, pow-suc, one-le-pow}
+use native.Mathlib.Nat.{mul-zero, mul-suc, add-comm, pow-suc}
 use native.Mathlib.Omega.{arith}
 use lib.Dec.{lit<}
 use lib.ListN.{length, getD, take, drop, length-append, length-drop, take-append-drop}
 use lib.Seq.{length-take-le, take-at, drop-at, take-add, drop-drop, getD-drop}
 use borrow.Author.Tests.{lt-ltb, le-ltb}
-use Rattle.laws.proofs.SearchLaws.{lt-or-le}
 use Rattle.wire.specs.facts.Bytes.{numberOf, bytesOf, inBytes, held, wordSize, numberSize, wordsIn, numbersIn}
 use Rattle.wire.specs.answers.Put.{withWords}
 
@@ -37,7 +35,7 @@ held-length size zero bytes = refl
 held-length size (suc k) bytes = ap suc (held-length size k (drop size bytes))
 
 -- the bytes of a number that they can write
-pub number-back : (k n : ℕ) → n < 256 ^ k → numberOf (bytesOf k n) ≡ n
+number-back : (k n : ℕ) → n < 256 ^ k → numberOf (bytesOf k n) ≡ n
 unfolding bytesOf numberOf
 number-back zero n lt = omega arith
 number-back (suc k) n lt =
@@ -45,7 +43,7 @@ number-back (suc k) n lt =
     rw (number-back k (n / 256) (omega (arith, below))) (omega arith)
 
 -- the number of bytes
-pub bytes-back : (bytes : List ℕ) → ((i : ℕ) → getD bytes i 0 < 256) → bytesOf (length bytes) (numberOf bytes) ≡ bytes
+bytes-back : (bytes : List ℕ) → ((i : ℕ) → getD bytes i 0 < 256) → bytesOf (length bytes) (numberOf bytes) ≡ bytes
 unfolding bytesOf numberOf
 bytes-back [] small = refl
 bytes-back (b ∷ bs) small =
@@ -54,7 +52,7 @@ bytes-back (b ∷ bs) small =
     rw (low, rest) (ap (λ (l : List ℕ). b ∷ l) (bytes-back bs (λ i. small (suc i))))
 
 -- numbers written, and then read
-pub held-front :
+held-front :
     (size : ℕ) (ns rest : List ℕ) (more : ℕ) →
     ((i : ℕ) → getD ns i 0 < 256 ^ size) →
     held size (length ns + more) (inBytes size ns ++ rest) ≡ ns ++ held size more rest
@@ -72,7 +70,7 @@ held-front size (n ∷ ns) rest more small =
     (ap (held size (length ns + more)) (drop-at first behind size (bytes-length size n)) ∙ held-front size ns rest more (λ i. small (suc i)))
 
 -- numbers passed over
-pub held-drop : (size n more : ℕ) (bytes : List ℕ) → drop n (held size (n + more) bytes) ≡ held size more (drop (size * n) bytes)
+held-drop : (size n more : ℕ) (bytes : List ℕ) → drop n (held size (n + more) bytes) ≡ held size more (drop (size * n) bytes)
 unfolding held
 held-drop size zero more bytes =
     let e : 0 + more ≡ more = omega arith in
@@ -92,7 +90,7 @@ drop-small : (n : ℕ) (bytes : List ℕ) → ((i : ℕ) → getD bytes i 0 < 25
 drop-small n bytes small i = rw (getD-drop n bytes i 0) (small (n + i))
 
 -- numbers read, and then written
-pub held-back :
+held-back :
     (size count : ℕ) (bytes : List ℕ) →
     ((i : ℕ) → getD bytes i 0 < 256) →
     size * count ≤ length bytes →
@@ -106,20 +104,6 @@ held-back size (suc k) bytes small le =
     (ap₂ (λ (xs ys : List ℕ). xs ++ ys)
     (ap (λ (n : ℕ). bytesOf n (numberOf (take size bytes))) (sym long) ∙ bytes-back (take size bytes) (take-small size bytes small))
     (held-back size k (drop size bytes) (drop-small size bytes small) (rw (length-drop size bytes) (omega (arith, room)))))
-
-number-small : (size : ℕ) (bytes : List ℕ) → ((i : ℕ) → getD bytes i 0 < 256) → numberOf (take size bytes) < 256 ^ size
-unfolding numberOf
-number-small zero bytes small = omega arith
-number-small (suc k) [] small = one-le-pow (suc k) 256 (lit< tt)
-number-small (suc k) (b ∷ bs) small =
-    rw (pow-suc 256 k) (omega (arith, small 0, number-small k bs (λ i. small (suc i))))
-
-pub held-small :
-    (size count : ℕ) (bytes : List ℕ) → ((i : ℕ) → getD bytes i 0 < 256) → (i : ℕ) → getD (held size count bytes) i 0 < 256 ^ size
-unfolding held
-held-small size zero bytes small i = one-le-pow size 256 (lit< tt)
-held-small size (suc k) bytes small zero = number-small size bytes small
-held-small size (suc k) bytes small (suc i) = held-small size k (drop size bytes) (drop-small size bytes small) i
 
 pub words-length : (bytes : List ℕ) → length (wordsIn bytes) ≡ length bytes / 4
 words-length bytes = held-length wordSize (length bytes / wordSize) bytes
@@ -203,10 +187,3 @@ with-words ws bytes fits = rw (le-ltb (length bytes) (wordSize * length ws) fits
 pub without-words : (ws bytes : List ℕ) → length bytes < wordSize * length ws → bytes ≡ withWords ws bytes
 unfolding withWords
 without-words ws bytes short = rw (lt-ltb (length bytes) (wordSize * length ws) short)
-
-pub with-words-length : (ws bytes : List ℕ) → length (withWords ws bytes) ≡ length bytes
-with-words-length ws bytes =
-    ⊎-elim
-    (λ short. ap (λ (l : List ℕ). length l) (sym (without-words ws bytes short)))
-    (λ fits. ap (λ (l : List ℕ). length l) (with-words ws bytes fits) ∙ laid-length ws bytes fits)
-    (lt-or-le (length bytes) (wordSize * length ws))

@@ -1,14 +1,12 @@
 -- `read_in_place` surveys by the front of the table, checks the rooms, and writes over it. Assumes nothing.
-use mathlib.Core.Path.{_≡_, sym, ap, _∙_}
-use mathlib.Core.List.{List}
-use Prim.Native.Nat.{ℕ, _≤_, min}
+use mathlib.Core.Path.{sym}
+use Prim.Native.Nat.{_≤_}
 use native.Mathlib.Omega.{arith}
 use lib.ListN.{length, take}
 use lib.Seq.{length-take-le}
 use Rattle.laws.proofs.CutLaws.{cut-size, cut-same}
-use Rattle.tables.specs.facts.Board.{Board, board}
+use Rattle.tables.specs.facts.Board.{board}
 use Rattle.board.specs.declared.Asked.the-variants.{Rows}
-use Rattle.board.proofs.ReadLaws.{Met}
 use Rattle.board.proofs.JoinLaws.{cpus-within, leaves-within, met}
 use Rattle.board.proofs.CallLaws.{rows-alone}
 use borrow.Author.Needs.{needs}

@@ -10,7 +10,11 @@ use Rattle.board.proofs.read.read.Statement.{statement}
 use Rattle.board.proofs.read.read.Tie as tie
 
 -- what the survey listed lies within the arrays
-cpus-in : (c : tie.After-survey) → let n = c .survey .result .cpus in let last = c .survey .last .1 .1 .1 .1 in (n ≤ length (last .0)) × (n ≤ length (last .1 .0))
+cpus-in :
+    (c : tie.After-survey) →
+    let n = c .survey .result .cpus in
+    let last = c .survey .last .1 .1 .1 .1 in
+    (n ≤ length (last .0)) × (n ≤ length (last .1 .0))
 cpus-in c = cpus-within (c .survey .ensures .0) (c .survey .ensures .1)
 
 leaves-in :

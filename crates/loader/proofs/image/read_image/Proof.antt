@@ -1,9 +1,8 @@
 -- `read_image` tells what the blob breaks, and else reads the board that its records make. Assumes nothing.
-use mathlib.Core.Path.{_≡_, sym, ap, _∙_}
-use mathlib.Core.List.{List}
+use mathlib.Core.Path.{sym}
 use Prim.Native.Nat.{ℕ, _*_, _≤_}
 use native.Mathlib.Omega.{arith}
-use lib.ListN.{length, take, replicate, length-replicate}
+use lib.ListN.{length, length-replicate}
 use lib.Seq.{length-take-le}
 use Rattle.loader.specs.facts.Image.{nodeRoom, propRoom}
 use Rattle.loader.proofs.ImageLaws.{refuses, reads, nodes-fit}

@@ -115,9 +115,11 @@ unfolding firstOutside
 returns-2 c =
     let at = c .before in
     let a = begun at .args in
-    let all : at .loop .k ≡ length (a .list .now) / numberSize = omega (arith, at .loop .inv .0, c .loop-test .left) in (
-      at-end (outside (a .list .now)) (at .loop .k) (length (numbersIn (a .list .now))) (all ∙ sym (numbers-length (a .list .now))) (at .loop .inv .3),
-      λ _. at .loop .inv .2 ∙ ap (λ (n : ℕ). laidOver (held numberSize n (a .list .now)) (a .mpidrs .now)) all,
+    let l = a .list .now in
+    let inv = at .loop .inv in
+    let all : at .loop .k ≡ length l / numberSize = omega (arith, inv .0, c .loop-test .left) in (
+      at-end (outside l) (at .loop .k) (length (numbersIn l)) (all ∙ sym (numbers-length l)) (inv .3),
+      λ _. inv .2 ∙ ap (λ (n : ℕ). laidOver (held numberSize n l) (a .mpidrs .now)) all,
     )
 
 pub read-mpidrs-spec : {M : Type 1} → statement M

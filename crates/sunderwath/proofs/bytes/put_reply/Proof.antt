@@ -1,7 +1,5 @@
 -- `put_reply` writes four words as bytes, and the rest stays. Assumes nothing.
-use mathlib.Core.Path.{refl}
 use mathlib.Core.List.{[], _∷_}
-use native.Mathlib.Omega.{arith}
 use borrow.Author.Tests.{le-ltb}
 use Rattle.wire.proofs.ByteLaws.{with-words}
 use borrow.Author.Needs.{needs}
