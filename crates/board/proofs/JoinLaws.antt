@@ -30,12 +30,15 @@ abbrev pub zeros : List ℕ
 zeros = replicate 256 0
 
 module _
-    {b : Board} {s : Surveyed} {cpus mpidrs leaves named : List ℕ} (found : s ≡ surveyOf b)
-    (listed : surveyFault b .number ≡ 0 → Lists b zeros zeros zeros zeros cpus mpidrs leaves named) where
+    {b : Board} {s : Surveyed} {cpus mpidrs leaves named : List ℕ}
+    (promised : (s ≡ surveyOf b) × (surveyFault b .number ≡ 0 → Lists b zeros zeros zeros zeros cpus mpidrs leaves named)) where
+  abbrev found : s ≡ surveyOf b
+  found = promised .0
+
   -- a survey that told nothing: the counts, and the lists at the front of the arrays
   module _ (clear : surveyFault b .number ≡ 0) where
     abbrev lists : Lists b zeros zeros zeros zeros cpus mpidrs leaves named
-    lists = listed clear
+    lists = promised .1 clear
 
     cpus-are : s .cpus ≡ cpuCount b
     cpus-are = counts b found clear .0
@@ -101,20 +104,20 @@ module _
         (before : List ℕ) {r : BoardAnswer} {after : List ℕ} →
         (r ≡ answerFrom c) × (after ≡ rowsBy (c .fault) made before) →
         Met b before room asked r after
-    met before {r} {after} promised = go (eqb (c .fault .number) 0) refl
+    met before {r} {after} wrote = go (eqb (c .fault .number) 0) refl
       where
         go : (t : Bool) → eqb (c .fault .number) 0 ≡ t → Met b before room asked r after
         go true e =
             let z = eqb-true (c .fault .number) 0 e in
             let clear = survey-clear b before room asked told-is z in
-            rw (rw e at (promised .0))
+            rw (rw e at (wrote .0))
             (accepts b before room asked told-is z (ap (λ (k : Checked). k .count) checked ∙ cpus-are clear)
             (ap (λ (k : Checked). k .hash) checked ∙ ap hashOf (mpidrs-front clear))
             (front-is _ _ (lists clear .cpus-laid) (cpu-size clear) (few clear))
             (mpidrs-front clear)
             (front-is _ _ (lists clear .leaves-laid) (leaf-size clear) (few-leaves clear))
             (front-is _ _ (lists clear .named-laid) (named-size clear) (few-named clear))
-            (rw e at (promised .1)))
+            (rw e at (wrote .1)))
         go false e =
             let ne = eqb-false (c .fault .number) 0 e in
-            rw (rw e at (promised .1)) (refuses b before room asked told-is ne (rw e at (promised .0)))
+            rw (rw e at (wrote .1)) (refuses b before room asked told-is ne (rw e at (wrote .0)))

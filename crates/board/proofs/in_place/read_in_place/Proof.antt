@@ -1,8 +1,7 @@
 -- `read_in_place` surveys by the front of the table, checks the rooms, and writes over it. Assumes nothing.
 use mathlib.Core.Path.{sym}
-use Prim.Native.Nat.{_≤_}
 use native.Mathlib.Omega.{arith}
-use lib.ListN.{length, take}
+use lib.ListN.{take}
 use lib.Seq.{length-take-le}
 use Rattle.laws.proofs.CutLaws.{cut-size, cut-same}
 use Rattle.tables.specs.facts.Board.{board}
@@ -12,21 +11,6 @@ use Rattle.board.proofs.CallLaws.{rows-alone}
 use borrow.Author.Needs.{needs}
 use Rattle.board.proofs.in_place.read_in_place.Statement.{statement}
 use Rattle.board.proofs.in_place.read_in_place.Tie as tie
-
--- what the survey listed lies within the arrays
-cpus-in :
-    (c : tie.After-survey) →
-    let n = c .survey .result .cpus in
-    let last = c .survey .last .1 .1 .1 .1 in
-    (n ≤ length (last .0)) × (n ≤ length (last .1 .0))
-cpus-in c = cpus-within (c .survey .ensures .0) (c .survey .ensures .1)
-
-leaves-in :
-    (c : tie.After-survey) →
-    let n = c .survey .result .leaves in
-    let last = c .survey .last .1 .1 .1 .1 .1 .1 in
-    (n ≤ length (last .0)) × (n ≤ length (last .1 .0))
-leaves-in c = leaves-within (c .survey .ensures .0) (c .survey .ensures .1)
 
 at-most-requires : tie.Need-at-most-requires
 at-most-requires c κs = search needs
@@ -41,10 +25,10 @@ survey-requires : tie.Need-survey-requires
 survey-requires c κs = search needs
 
 array-share-prefix-mpidrs : tie.Need-array-share-prefix-mpidrs
-array-share-prefix-mpidrs c = cpus-in c .1
+array-share-prefix-mpidrs c = cpus-within (c .survey .ensures) .1
 
 slice-aggregate-listed : tie.Need-slice-aggregate-listed
-slice-aggregate-listed c = sym (length-take-le _ _ (cpus-in (c .before) .1))
+slice-aggregate-listed c = let call = c .before in sym (length-take-le _ _ (cpus-within (call .survey .ensures) .1))
 
 at-most-requires-2 : tie.Need-at-most-requires-2
 at-most-requires-2 c κs = search needs
@@ -53,22 +37,26 @@ check-rooms-requires : tie.Need-check-rooms-requires
 check-rooms-requires c κs = search needs
 
 array-share-prefix-cpus : tie.Need-array-share-prefix-cpus
-array-share-prefix-cpus c = cpus-in (c .before .before .before .before) .0
+array-share-prefix-cpus c = let call = c .before .before .before .before in cpus-within (call .survey .ensures) .0
 
 slice-aggregate-write : tie.Need-slice-aggregate-write
-slice-aggregate-write c = sym (length-take-le _ _ (cpus-in (c .before .before .before .before .before) .0))
+slice-aggregate-write c = let call = c .before .before .before .before .before in sym (length-take-le _ _ (cpus-within (call .survey .ensures) .0))
 
 array-share-prefix-leaves : tie.Need-array-share-prefix-leaves
-array-share-prefix-leaves c = leaves-in (c .before .before .before .before .before) .0
+array-share-prefix-leaves c = let call = c .before .before .before .before .before in leaves-within (call .survey .ensures) .0
 
 slice-aggregate-write-2 : tie.Need-slice-aggregate-write-2
-slice-aggregate-write-2 c = sym (length-take-le _ _ (leaves-in (c .before .before .before .before .before .before) .0))
+slice-aggregate-write-2 c =
+    let call = c .before .before .before .before .before .before in
+    sym (length-take-le _ _ (leaves-within (call .survey .ensures) .0))
 
 array-share-prefix-named : tie.Need-array-share-prefix-named
-array-share-prefix-named c = leaves-in (c .before .before .before .before .before .before) .1
+array-share-prefix-named c = let call = c .before .before .before .before .before .before in leaves-within (call .survey .ensures) .1
 
 slice-aggregate-write-3 : tie.Need-slice-aggregate-write-3
-slice-aggregate-write-3 c = sym (length-take-le _ _ (leaves-in (c .before .before .before .before .before .before .before) .1))
+slice-aggregate-write-3 c =
+    let call = c .before .before .before .before .before .before .before in
+    sym (length-take-le _ _ (leaves-within (call .survey .ensures) .1))
 
 write-requires : tie.Need-write-requires
 write-requires c κs = search needs
@@ -86,7 +74,7 @@ returns c =
     let a = held .before .before .before .before .args in
     let b = board (a .width) (a .nodes .now) (take (held .at-most .result) (a .table .now)) (a .pool .now) in
     let promised =
-    met {b = b} (call .survey .ensures .0) (call .survey .ensures .1) (room .at-most2 .result) Rows (checked .check-rooms .ensures)
+    met {b = b} (call .survey .ensures) (room .at-most2 .result) Rows (checked .check-rooms .ensures)
     (a .table .now) (wrote .write .ensures) in
     rw (← cut-same (a .table .now) (a .words) (held .at-most .ensures), ← room .at-most2 .ensures)
     (rows-alone b (a .table .now) (room .at-most2 .result) promised)
