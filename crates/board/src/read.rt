@@ -1,10 +1,10 @@
-// Check, room, write: what both calls have in common.
+// Check, room, write: what the reading calls have in common.
 use crate::Asked;
 use crate::Checked;
 use crate::Surveyed;
 use crate::survey::survey;
-use affinity::Hash;
 use demands::BoardAnswer;
+use demands::refused;
 use laws::Fault;
 use laws::limits::MAX_CPUS;
 use laws::limits::NO_PROPERTY;
@@ -15,24 +15,8 @@ ghost use lib.ListN.{length};
 ghost use Rattle.tables.specs.facts.Board.{board};
 ghost use Rattle.cpus.specs.answers.Check.{cpuCount, mpidrList};
 ghost use Rattle.rows.specs.answers.Write.{source, sourceOf};
-ghost use Rattle.demands.specs.answers.Answer.{refusedWith, answerBy, rowsBy};
+ghost use Rattle.demands.specs.answers.Answer.{answerBy, rowsBy};
 ghost use Rattle.board.specs.steps.Read.{tableFault, roomsFault, readFault, checkedOf, answerFrom};
-
-fn refused(fault: Fault) -> BoardAnswer
-    ensures { λ r. ⌜ r ≡ refusedWith fault ⌝ }
-{
-    BoardAnswer {
-        number: fault.number,
-        place: fault.place,
-        second: fault.second,
-        count: 0,
-        hash: Hash {
-            mask: 0,
-            shifts: [0; 4],
-            bits: 0,
-        },
-    }
-}
 
 // Rules 38 and 39, where a table is asked for.
 fn table_fault(asked: Asked, bits: u32) -> u32

@@ -1,5 +1,8 @@
 // What is answered of a board, and what is demanded of the answer and of the row buffer: the rules in their order, and the claim.
 use affinity::Hash;
+use laws::Fault;
+ghost use mathlib.Core.Path.{_≡_};
+ghost use Rattle.demands.specs.answers.Answer.{refusedWith};
 
 // Number 0 and place 0, with the count of rows and the hash of the MPIDRs; or a refusal, in which these are 0. The second place is the record
 // of the property that a refusal speaks of, or NO_PROPERTY.
@@ -9,4 +12,21 @@ pub struct BoardAnswer {
     pub second: usize,
     pub count: usize,
     pub hash: Hash,
+}
+
+// A refusal: what is told, and nothing else.
+pub fn refused(fault: Fault) -> BoardAnswer
+    ensures { λ r. ⌜ r ≡ refusedWith fault ⌝ }
+{
+    BoardAnswer {
+        number: fault.number,
+        place: fault.place,
+        second: fault.second,
+        count: 0,
+        hash: Hash {
+            mask: 0,
+            shifts: [0; 4],
+            bits: 0,
+        },
+    }
 }

@@ -1,7 +1,7 @@
 // A flattened devicetree read into rows of bytes.
-use affinity::Hash;
 use demands::BoardAnswer;
-use flat::BlobAnswer;
+use demands::refused;
+use laws::Fault;
 use laws::limits::NO_PROPERTY;
 use layout::ROW_WORDS;
 use wire::WORD_BYTES;
@@ -9,36 +9,20 @@ ghost use mathlib.Core.Path.{_≡_};
 ghost use Prim.Native.Nat.{_*_, _/_, _≤_};
 ghost use lib.ListN.{length, take};
 ghost use Rattle.laws.specs.facts.Limits.{maxCpus};
-ghost use Rattle.laws.specs.answers.Fault.{plain};
 ghost use Rattle.layout.specs.facts.Row.{rowSize};
 ghost use Rattle.wire.specs.facts.Bytes.{wordSize, wordsIn};
 ghost use Rattle.tables.specs.facts.Board.{board};
 ghost use Rattle.demands.specs.facts.Words.{Words};
 ghost use Rattle.demands.specs.facts.Reading.{Demands};
-ghost use Rattle.demands.specs.answers.Answer.{refusedWith, answerOf};
+ghost use Rattle.demands.specs.answers.Answer.{answerOf};
 ghost use Rattle.loader.specs.facts.Image.{ImageDemands};
 ghost use Rattle.loader.specs.answers.Image.{rowBytes, imageAnswer, imageRows};
 
-// The words of the tables: 1,024 nodes of three words, and 1,024 properties of five.
+// The words of 1,024 node records.
 const NODE_ROOM: usize = 3072;
 
+// The words of 1,024 property records.
 const PROPERTY_ROOM: usize = 5120;
-
-fn refused(found: BlobAnswer) -> BoardAnswer
-    ensures { λ r. ⌜ r ≡ refusedWith (plain (found .number) (found .place)) ⌝ }
-{
-    BoardAnswer {
-        number: found.number,
-        place: found.place as usize,
-        second: NO_PROPERTY,
-        count: 0,
-        hash: Hash {
-            mask: 0,
-            shifts: [0; 4],
-            bits: 0,
-        },
-    }
-}
 
 // Reads the board that a blob's records make. The first `words` words of `table` are its properties; the rows are made in their place, and
 // written as bytes where no rule is broken.
@@ -79,7 +63,12 @@ pub fn read_image(width: u32, blob: &[u8], rows: &mut [u8]) -> BoardAnswer
     let mut table = [0u32; PROPERTY_ROOM];
     let found = blob::read_blob(blob, &mut nodes, &mut table);
     if found.number != 0 {
-        return refused(found);
+        let place = found.place as usize;
+        return refused(Fault {
+            number: found.number,
+            place,
+            second: NO_PROPERTY,
+        });
     }
     let node_words = 3 * found.nodes as usize;
     let words = 5 * found.props as usize;

@@ -34,18 +34,22 @@ slice-aggregate-read-blob-2 c = search needs
 read-blob-requires : tie.Need-read-blob-requires
 read-blob-requires c κs = search needs
 
+cast-place : tie.Need-cast-place
+cast-place c = search needs
+
 refused-requires : tie.Need-refused-requires
 refused-requires c κs = search needs
 
 returns : tie.Need-returns
 returns c =
-    let call = c .before .before .before .before .before in
+    let test = c .before .before in
+    let call = test .before .before .before .before in
     let a = call .before .before .before .before .before .args in
     let read = call .read-blob .ensures in
     refuses (a .width) (a .blob .now) (a .rows .now) (length-replicate {A = ℕ} nodeRoom 0) (length-replicate {A = ℕ} propRoom 0) (read .0)
     (read .1 .1 .1)
-    (c .before .if1 .taken)
-    (omega (arith, c .before .before .struct-known .given))
+    (test .if1 .taken)
+    (omega (arith, test .before .struct-known .given))
     (c .refused .ensures)
 
 cast-node-words : tie.Need-cast-node-words
@@ -98,6 +102,7 @@ read-image-spec =
     slice-aggregate-read-blob
     slice-aggregate-read-blob-2
     read-blob-requires
+    cast-place
     refused-requires
     returns
     cast-node-words
