@@ -1,9 +1,10 @@
 -- The computed hash of a list with no bit outside is its hash, and a list has no other. Assumes nothing.
 use mathlib.Core.Path.{_≡_, refl, sym, ap, ap₂, _∙_}
 use mathlib.Core.Logic.{⊎-elim}
-use mathlib.Core.List.{List}
+use mathlib.Core.List.{List, [], _∷_}
 use Prim.Native.Nat.{ℕ, _+_, _≤_, _<_}
 use native.Mathlib.Omega.{arith}
+use lib.Count.{leadingZeros, trailingZeros}
 use lib.ListN.{length, getD}
 use lib.Seq.{ext-getD}
 use Rattle.laws.specs.facts.Digit.{digit}
@@ -15,7 +16,7 @@ use Rattle.laws.proofs.DigitLaws.{digit-lt}
 use Rattle.laws.proofs.FromDigitLaws.{digit-not-one, digit-ext-below}
 use Rattle.affinity.specs.declared.Hash.{Hash}
 use Rattle.affinity.specs.facts.Level.{beginOf, levelPart}
-use Rattle.affinity.specs.answers.Level.{lowOf, widthOf}
+use Rattle.affinity.specs.answers.Level.{lowOf, topOf, widthOf}
 use Rattle.affinity.specs.answers.Mask.{maskOf}
 use Rattle.affinity.specs.answers.Hash.{bitsBelow, shiftOf, shiftsOf, hashOfMask, hashOf, slotIn}
 use Rattle.affinity.specs.steps.List.{AllAffine}
@@ -82,6 +83,11 @@ mask-unique {m = m} {n = n} h g =
 
 abbrev hash : ℕ → List ℕ → ℕ → Hash
 hash mask shifts bits = record { mask = mask; shifts = shifts; bits = bits }
+
+-- the hash of the empty mask
+pub empty-hash : hashOfMask 0 ≡ record { mask = 0; shifts = 0 ∷ 8 ∷ 16 ∷ 32 ∷ []; bits = 0 }
+unfolding hashOfMask shiftsOf shiftOf sumBelow levelPart lowOf widthOf topOf trailingZeros leadingZeros
+empty-hash = refl
 
 pub hash-unique : {list : List ℕ} {h g : Hash} → IsHash list h → IsHash list g → h ≡ g
 hash-unique {list} {h} {g} a b =

@@ -8,7 +8,8 @@ use Rattle.laws.specs.answers.Fault.{told}
 use Rattle.layout.specs.facts.Row.{rowSize}
 use Rattle.slot_table.specs.answers.Table.{filled}
 use Rattle.tables.specs.facts.Board.{Board, WordSized}
-use Rattle.cpus.specs.answers.Check.{cpuCount, mpidrList}
+use Rattle.cpus.specs.answers.Check.{cpuCount}
+use Rattle.rows.specs.answers.Slots.{boardHash}
 use Rattle.rows.specs.answers.Write.{sourceOf}
 use Rattle.demands.specs.declared.BoardAnswer.{BoardAnswer}
 use Rattle.demands.specs.facts.Reading.{rowsIn, Demands}
@@ -30,7 +31,7 @@ pub rows-alone :
     (r ≡ answerOf b room) × (after ≡ rowsBy (boardFault b room) (sourceOf b) before)
 unfolding answerOf
 rows-alone b before room promised =
-    let same = by-else (boardFault b room) (cpuCount b) (mpidrList b) (told 0 0) (sourceOf b) before (λ _. refl) in
+    let same = by-else (boardFault b room) (cpuCount b) (boardHash b) (told 0 0) (sourceOf b) before (λ _. refl) in
     (promised .0 ∙ same .0, promised .1 ∙ same .1)
 
 module _ {b : Board} (sized : WordSized b) (before : List ℕ) where

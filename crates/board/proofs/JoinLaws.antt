@@ -7,11 +7,12 @@ use native.Mathlib.Omega.{arith}
 use lib.Dec.{eqb}
 use lib.ListN.{length, take, replicate, length-map, length-replicate}
 use borrow.Author.Tests.{eqb-true, eqb-false}
-use Rattle.affinity.specs.answers.Hash.{hashOf}
 use Rattle.tables.specs.facts.Board.{Board}
-use Rattle.cpus.specs.answers.Check.{cpuCount, cpuList, mpidrList}
+use Rattle.cpus.specs.answers.Check.{cpuCount, cpuList, regList}
 use Rattle.cpus.proofs.CpuMeans.{cpu-count}
 use Rattle.leaves.specs.answers.Scan.{leavesOf, namedOf}
+use Rattle.rows.specs.declared.BoardSlots.{BoardSlots}
+use Rattle.rows.specs.answers.Slots.{slotsFor, slotsOf}
 use Rattle.rows.specs.answers.Write.{Source, source}
 use Rattle.demands.specs.declared.BoardAnswer.{BoardAnswer}
 use Rattle.demands.specs.answers.Survey.{surveyFault}
@@ -30,14 +31,14 @@ abbrev pub zeros : List ℕ
 zeros = replicate 256 0
 
 module _
-    {b : Board} {s : Surveyed} {cpus mpidrs leaves named : List ℕ}
-    (promised : (s ≡ surveyOf b) × (surveyFault b .number ≡ 0 → Lists b zeros zeros zeros zeros cpus mpidrs leaves named)) where
+    {b : Board} {s : Surveyed} {cpus regs leaves named : List ℕ}
+    (promised : (s ≡ surveyOf b) × (surveyFault b .number ≡ 0 → Lists b zeros zeros zeros zeros cpus regs leaves named)) where
   abbrev found : s ≡ surveyOf b
   found = promised .0
 
   -- a survey that told nothing: the counts, and the lists at the front of the arrays
   module _ (clear : surveyFault b .number ≡ 0) where
-    abbrev lists : Lists b zeros zeros zeros zeros cpus mpidrs leaves named
+    abbrev lists : Lists b zeros zeros zeros zeros cpus regs leaves named
     lists = promised .1 clear
 
     cpus-are : s .cpus ≡ cpuCount b
@@ -46,8 +47,8 @@ module _
     cpu-size : s .cpus ≡ length (cpuList b)
     cpu-size = cpus-are ∙ cpu-count b
 
-    mpidr-size : s .cpus ≡ length (mpidrList b)
-    mpidr-size = cpu-size ∙ sym (length-map (cpuList b) _)
+    reg-size : s .cpus ≡ length (regList b)
+    reg-size = cpu-size ∙ sym (length-map (cpuList b) _)
 
     leaf-size : s .leaves ≡ length (leavesOf b)
     leaf-size = counts b found clear .1
@@ -58,8 +59,8 @@ module _
     few : length (cpuList b) ≤ length zeros
     few = omega (arith, survey-few b clear .0, cpu-count b, length-replicate {A = ℕ} 256 0)
 
-    few-mpidrs : length (mpidrList b) ≤ length zeros
-    few-mpidrs = omega (arith, few, cpu-size, mpidr-size)
+    few-regs : length (regList b) ≤ length zeros
+    few-regs = omega (arith, few, cpu-size, reg-size)
 
     few-leaves : length (leavesOf b) ≤ length zeros
     few-leaves = omega (arith, survey-few b clear, length-replicate {A = ℕ} 256 0)
@@ -67,8 +68,8 @@ module _
     few-named : length (namedOf b) ≤ length zeros
     few-named = omega (arith, few-leaves, leaf-size, named-size)
 
-    mpidrs-front : take (s .cpus) mpidrs ≡ mpidrList b
-    mpidrs-front = front-is _ _ (lists .mpidrs-laid) mpidr-size few-mpidrs
+    regs-front : take (s .cpus) regs ≡ regList b
+    regs-front = front-is _ _ (lists .regs-laid) reg-size few-regs
 
   -- a count lies within an array: it is that of what the array holds, or 0 where the survey stopped
   in-array :
@@ -79,10 +80,10 @@ module _
       go true e = clear (eqb-true (surveyFault b .number) 0 e)
       go false e = omega (arith, stop (eqb-false (surveyFault b .number) 0 e))
 
-  pub cpus-within : (s .cpus ≤ length cpus) × (s .cpus ≤ length mpidrs)
+  pub cpus-within : (s .cpus ≤ length cpus) × (s .cpus ≤ length regs)
   cpus-within = (
     in-array cpus (λ z. front-fits _ _ (lists z .cpus-laid) (cpu-size z) (few z)) (λ ne. stops b found ne .0),
-    in-array mpidrs (λ z. front-fits _ _ (lists z .mpidrs-laid) (mpidr-size z) (few-mpidrs z)) (λ ne. stops b found ne .0),
+    in-array regs (λ z. front-fits _ _ (lists z .regs-laid) (reg-size z) (few-regs z)) (λ ne. stops b found ne .0),
   )
 
   pub leaves-within : (s .leaves ≤ length leaves) × (s .leaves ≤ length named)
@@ -92,13 +93,19 @@ module _
   )
 
   -- what was checked of a room of so many words
-  module _ (room : ℕ) (asked : Asked) {c : Checked} (checked : c ≡ checkedOf s (take (s .cpus) mpidrs) room asked) where
+  module _
+      (room : ℕ) (asked : Asked) {slots : BoardSlots} {c : Checked}
+      (made-of : slots ≡ slotsFor (b .width) (take (s .cpus) regs))
+      (checked : c ≡ checkedOf s slots room asked) where
+    slots-are : surveyFault b .number ≡ 0 → slots ≡ slotsOf b
+    slots-are z = made-of ∙ ap (slotsFor (b .width)) (regs-front z)
+
     told-is : c .fault ≡ readFault b room asked
-    told-is = ap (λ (k : Checked). k .fault) checked ∙ rooms-is b found room asked (λ z. ap (λ (l : List ℕ). hashOf l .bits) (mpidrs-front z))
+    told-is = ap (λ (k : Checked). k .fault) checked ∙ rooms-is b found room asked (λ z. ap (λ (k : BoardSlots). k .hash .bits) (slots-are z))
 
     abbrev made : Source
     made =
-        source (b .nodes) (b .pool) (take (s .cpus) cpus) (take (s .cpus) mpidrs) (take (s .leaves) leaves) (take (s .leaves) named) (c .hash)
+        source (b .nodes) (b .pool) (take (s .cpus) cpus) (take (s .cpus) regs) (take (s .leaves) leaves) (take (s .leaves) named) (c .slots)
 
     pub met :
         (before : List ℕ) {r : BoardAnswer} {after : List ℕ} →
@@ -112,9 +119,9 @@ module _
             let clear = survey-clear b before room asked told-is z in
             rw (rw e at (wrote .0))
             (accepts b before room asked told-is z (ap (λ (k : Checked). k .count) checked ∙ cpus-are clear)
-            (ap (λ (k : Checked). k .hash) checked ∙ ap hashOf (mpidrs-front clear))
+            (ap (λ (k : Checked). k .slots) checked ∙ slots-are clear)
             (front-is _ _ (lists clear .cpus-laid) (cpu-size clear) (few clear))
-            (mpidrs-front clear)
+            (regs-front clear)
             (front-is _ _ (lists clear .leaves-laid) (leaf-size clear) (few-leaves clear))
             (front-is _ _ (lists clear .named-laid) (named-size clear) (few-named clear))
             (rw e at (wrote .1)))

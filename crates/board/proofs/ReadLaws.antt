@@ -11,12 +11,12 @@ use Rattle.laws.specs.facts.Limits.{noProperty}
 use Rattle.laws.specs.answers.Fault.{told, orElse}
 use Rattle.laws.proofs.FaultLaws.{or-first}
 use Rattle.laws.proofs.OrElseLaws.{or-assoc, or-clear}
-use Rattle.affinity.specs.declared.Hash.{Hash}
-use Rattle.affinity.specs.answers.Hash.{hashOf}
 use Rattle.tables.specs.facts.Board.{Board}
-use Rattle.cpus.specs.answers.Check.{cpuCount, cpuList, mpidrList}
+use Rattle.cpus.specs.answers.Check.{cpuCount, cpuList, regList}
 use Rattle.cpumap.specs.answers.Find.{mapOf, mapFault, mapScan}
 use Rattle.leaves.specs.answers.Scan.{leavesOf, namedOf}
+use Rattle.rows.specs.declared.BoardSlots.{BoardSlots}
+use Rattle.rows.specs.answers.Slots.{slotsOf, boardHash}
 use Rattle.rows.specs.answers.Write.{source, written, sourceOf}
 use Rattle.demands.specs.declared.BoardAnswer.{BoardAnswer}
 use Rattle.board.specs.declared.Surveyed.{Surveyed}
@@ -67,13 +67,13 @@ module _ (b : Board) {s : Surveyed} (found : s ≡ surveyOf b) where
   -- what the code tells is what is told of the board; the bits matter only where the survey tells nothing
   pub rooms-is :
       {bits : ℕ} (room : ℕ) (asked : Asked) →
-      (surveyFault b .number ≡ 0 → bits ≡ hashOf (mpidrList b) .bits) →
+      (surveyFault b .number ≡ 0 → bits ≡ boardHash b .bits) →
       roomsFault s room asked bits ≡ readFault b room asked
   unfolding boardFault
   rooms-is {bits} room asked same = rw (fault-is, or-assoc) (go (eqb (surveyFault b .number) 0) refl)
     where
       last : Fault
-      last = orElse (told (roomFault room (cpuCount b)) 0) (told (tableFault asked (hashOf (mpidrList b) .bits)) 0)
+      last = orElse (told (roomFault room (cpuCount b)) 0) (told (tableFault asked (boardHash b .bits)) 0)
 
       go :
           (t : Bool) →
@@ -92,7 +92,7 @@ module _ (b : Board) (before : List ℕ) (room : ℕ) (asked : Asked) where
   wanted = readFault b room asked
 
   abbrev pub Met : BoardAnswer → List ℕ → Type 0
-  Met r after = (r ≡ answerBy wanted (cpuCount b) (mpidrList b)) × (after ≡ rowsBy wanted (sourceOf b) before)
+  Met r after = (r ≡ answerBy wanted (cpuCount b) (boardHash b)) × (after ≡ rowsBy wanted (sourceOf b) before)
 
   pub survey-clear : {f : Fault} → f ≡ wanted → f .number ≡ 0 → surveyFault b .number ≡ 0
   unfolding boardFault
@@ -103,16 +103,16 @@ module _ (b : Board) (before : List ℕ) (room : ℕ) (asked : Asked) where
   refuses {r} {f} e ne is = rw (← e, ne-eqb (f .number) 0 ne) (is, refl)
 
   pub accepts :
-      {f : Fault} {count : ℕ} {hash : Hash} {cpus mpidrs leaves named after : List ℕ} →
+      {f : Fault} {count : ℕ} {slots : BoardSlots} {cpus regs leaves named after : List ℕ} →
       f ≡ wanted →
       f .number ≡ 0 →
       count ≡ cpuCount b →
-      hash ≡ hashOf (mpidrList b) →
+      slots ≡ slotsOf b →
       cpus ≡ cpuList b →
-      mpidrs ≡ mpidrList b →
+      regs ≡ regList b →
       leaves ≡ leavesOf b →
       named ≡ namedOf b →
-      after ≡ written (source (b .nodes) (b .pool) cpus mpidrs leaves named hash) before →
-      Met (record { number = 0; place = 0; second = noProperty; count = count; hash = hash }) after
-  accepts {f} e z counted hashed is-cpus is-mpidrs is-leaves is-named wrote =
-      rw (← e, eq-eqb (f .number) 0 z, counted, hashed) (refl, rw (hashed, is-cpus, is-mpidrs, is-leaves, is-named) at wrote)
+      after ≡ written (source (b .nodes) (b .pool) cpus regs leaves named slots) before →
+      Met (record { number = 0; place = 0; second = noProperty; count = count; hash = slots .hash }) after
+  accepts {f} e z counted slotted is-cpus is-regs is-leaves is-named wrote =
+      rw (← e, eq-eqb (f .number) 0 z, counted, slotted) (refl, rw (slotted, is-cpus, is-regs, is-leaves, is-named) at wrote)

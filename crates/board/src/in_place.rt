@@ -32,7 +32,7 @@ pub fn read_in_place(
         ⌜ now (table .exit) ≡ rowsBy fault (sourceOf b) (now (table .entry)) ⌝ }
 {
     let mut cpus = [0u16; MAX_CPUS];
-    let mut mpidrs = [0u64; MAX_CPUS];
+    let mut regs = [0u64; MAX_CPUS];
     let mut leaves = [0u16; MAX_CPUS];
     let mut named = [0u16; MAX_CPUS];
     let size = table.len();
@@ -43,14 +43,15 @@ pub fn read_in_place(
         &table[..held],
         pool,
         &mut cpus,
-        &mut mpidrs,
+        &mut regs,
         &mut leaves,
         &mut named,
     );
     let count = found.cpus;
     let leaf_count = found.leaves;
-    let listed = &mpidrs[..count];
-    let checked = check_rooms(found, listed, at_most(room, size), Asked::Rows);
+    let listed = &regs[..count];
+    let slots = rows::slots_for(width, listed);
+    let checked = check_rooms(found, slots, at_most(room, size), Asked::Rows);
     write(
         table,
         nodes,

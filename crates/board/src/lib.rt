@@ -3,12 +3,12 @@ mod in_place;
 mod read;
 mod survey;
 
-use affinity::Hash;
 use demands::BoardAnswer;
 pub use in_place::read_in_place;
 use laws::Fault;
 use layout::ROW_WORDS;
 use read::read;
+use rows::BoardSlots;
 ghost use mathlib.Core.Path.{_≡_};
 ghost use lib.ListN.{length};
 ghost use Rattle.tables.specs.facts.Board.{board};
@@ -24,11 +24,11 @@ struct Surveyed {
     pub leaves: usize,
 }
 
-// What is told of a surveyed board and of the room lent for its rows, the count of its cpu records and the hash of their MPIDRs.
+// What is told of a surveyed board and of the room lent for its rows, the count of its cpu records and how its slots are made.
 struct Checked {
     pub fault: Fault,
     pub count: usize,
-    pub hash: Hash,
+    pub slots: BoardSlots,
 }
 
 // What is asked for: the rows alone, or a table of slots, too, for which so many entries are lent.

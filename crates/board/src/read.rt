@@ -10,10 +10,12 @@ use laws::limits::MAX_CPUS;
 use laws::limits::NO_PROPERTY;
 use laws::rules;
 use layout::ROW_WORDS;
+use rows::BoardSlots;
 ghost use mathlib.Core.Path.{_≡_};
 ghost use lib.ListN.{length};
 ghost use Rattle.tables.specs.facts.Board.{board};
-ghost use Rattle.cpus.specs.answers.Check.{cpuCount, mpidrList};
+ghost use Rattle.cpus.specs.answers.Check.{cpuCount};
+ghost use Rattle.rows.specs.answers.Slots.{boardHash};
 ghost use Rattle.rows.specs.answers.Write.{source, sourceOf};
 ghost use Rattle.demands.specs.answers.Answer.{answerBy, rowsBy};
 ghost use Rattle.board.specs.steps.Read.{tableFault, roomsFault, readFault, checkedOf, answerFrom};
@@ -47,15 +49,15 @@ fn rooms_fault(found: Surveyed, room: usize, asked: Asked, bits: u32) -> Fault
     }
 }
 
-// What is told of a surveyed board with these MPIDRs and of a room of so many words, and their hash.
-pub fn check_rooms(found: Surveyed, mpidrs: &[u64], room: usize, asked: Asked) -> Checked
-    ensures { λ r. ⌜ r ≡ checkedOf found (now (mpidrs .entry)) room asked ⌝ }
+// What is told of a surveyed board with such slots and of a room of so many words.
+pub fn check_rooms(found: Surveyed, slots: BoardSlots, room: usize, asked: Asked) -> Checked
+    ensures { λ r. ⌜ r ≡ checkedOf found slots room asked ⌝ }
 {
-    let hash = affinity::hash_of_mask(affinity::mask_of(mpidrs));
+    let hash = slots.hash;
     Checked {
         fault: rooms_fault(found, room, asked, hash.bits),
         count: found.cpus,
-        hash,
+        slots,
     }
 }
 
@@ -65,23 +67,24 @@ pub fn write(
     nodes: &[u32],
     pool: &[u8],
     cpus: &[u16],
-    mpidrs: &[u64],
+    regs: &[u64],
     leaves: &[u16],
     named: &[u16],
     checked: Checked,
 ) -> BoardAnswer
     ensures answer { λ r. ⌜ r ≡ answerFrom checked ⌝ }
     ensures rows { λ _.
-        let s = source (now (nodes .entry)) (now (pool .entry)) (now (cpus .entry)) (now (mpidrs .entry))
-        (now (leaves .entry)) (now (named .entry)) (checked .hash) in
+        let s = source (now (nodes .entry)) (now (pool .entry)) (now (cpus .entry)) (now (regs .entry))
+        (now (leaves .entry)) (now (named .entry)) (checked .slots) in
         ⌜ now (rows .exit) ≡ rowsBy (checked .fault) s (now (rows .entry)) ⌝ }
 {
     let fault = checked.fault;
     if fault.number != 0 {
         return refused(fault);
     }
-    let hash = checked.hash;
-    rows::write_rows(rows, nodes, pool, cpus, mpidrs, leaves, named, hash);
+    let slots = checked.slots;
+    let hash = slots.hash;
+    rows::write_rows(rows, nodes, pool, cpus, regs, leaves, named, slots);
     BoardAnswer {
         number: 0,
         place: 0,
@@ -102,13 +105,13 @@ pub fn read(
 ) -> BoardAnswer
     ensures answer { λ r.
         let b = board width (now (nodes .entry)) (now (props .entry)) (now (pool .entry)) in
-        ⌜ r ≡ answerBy (readFault b (length (now (rows .entry))) asked) (cpuCount b) (mpidrList b) ⌝ }
+        ⌜ r ≡ answerBy (readFault b (length (now (rows .entry))) asked) (cpuCount b) (boardHash b) ⌝ }
     ensures rows { λ _.
         let b = board width (now (nodes .entry)) (now (props .entry)) (now (pool .entry)) in
         ⌜ now (rows .exit) ≡ rowsBy (readFault b (length (now (rows .entry))) asked) (sourceOf b) (now (rows .entry)) ⌝ }
 {
     let mut cpus = [0u16; MAX_CPUS];
-    let mut mpidrs = [0u64; MAX_CPUS];
+    let mut regs = [0u64; MAX_CPUS];
     let mut leaves = [0u16; MAX_CPUS];
     let mut named = [0u16; MAX_CPUS];
     let found = survey(
@@ -117,14 +120,15 @@ pub fn read(
         props,
         pool,
         &mut cpus,
-        &mut mpidrs,
+        &mut regs,
         &mut leaves,
         &mut named,
     );
     let count = found.cpus;
     let leaf_count = found.leaves;
-    let listed = &mpidrs[..count];
-    let checked = check_rooms(found, listed, rows.len(), asked);
+    let listed = &regs[..count];
+    let slots = rows::slots_for(width, listed);
+    let checked = check_rooms(found, slots, rows.len(), asked);
     write(
         rows,
         nodes,

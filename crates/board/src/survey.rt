@@ -1,4 +1,4 @@
-// Rules 1 to 26, 36 and 37, and what the rows are made of: the cpu records, their MPIDRs, the leaves and the cpus that they name.
+// Rules 1 to 26, 36 and 37, and what the rows are made of: the cpu records, their `reg`s, the leaves and the cpus that they name.
 use crate::Surveyed;
 use cpus::CpuNumbers;
 use laws::Fault;
@@ -27,7 +27,7 @@ pub fn survey(
     props: &[u32],
     pool: &[u8],
     cpus: &mut [u16; MAX_CPUS],
-    mpidrs: &mut [u64; MAX_CPUS],
+    regs: &mut [u64; MAX_CPUS],
     leaves: &mut [u16; MAX_CPUS],
     named: &mut [u16; MAX_CPUS],
 ) -> Surveyed
@@ -37,8 +37,8 @@ pub fn survey(
     ensures lists { λ _.
         let b = board width (now (nodes .entry)) (now (props .entry)) (now (pool .entry)) in
         ⌜ (surveyFault b .number ≡ 0
-        → Lists b (now (cpus .entry)) (now (mpidrs .entry)) (now (leaves .entry)) (now (named .entry))
-        (now (cpus .exit)) (now (mpidrs .exit)) (now (leaves .exit)) (now (named .exit))) ⌝ }
+        → Lists b (now (cpus .entry)) (now (regs .entry)) (now (leaves .entry)) (now (named .entry))
+        (now (cpus .exit)) (now (regs .exit)) (now (leaves .exit)) (now (named .exit))) ⌝ }
 {
     let fault = wellformed::table_fault(width, nodes, props, pool);
     if fault.number != 0 {
@@ -63,12 +63,12 @@ pub fn survey(
     let mut index = [0u16; INDEX_WORDS];
     property_index::index_properties(props, pool, &mut index);
     let fault = cpus::read_numbers(
-        CpuNumbers::Mpidrs(cells),
+        CpuNumbers::Regs { cells, width },
         props,
         pool,
         &index,
         listed,
-        mpidrs,
+        regs,
     );
     if fault.number != 0 {
         return stop(fault);

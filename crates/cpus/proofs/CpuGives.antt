@@ -7,11 +7,11 @@ use Rattle.laws.proofs.VerdictLaws.{held}
 use Rattle.tables.specs.facts.Board.{Board, WordSized}
 use Rattle.wellformed.specs.facts.Rules.{WellFormed}
 use Rattle.cpus.specs.declared.CpuReading.{CpuReading}
-use Rattle.cpus.specs.facts.Node.{Cpu, Reg, mpidr, Phandle}
+use Rattle.cpus.specs.facts.Node.{Cpu, Reg, regNumber, Phandle}
 use Rattle.cpus.specs.facts.Rules.{CpuRule, SoundCpus, PhandleRule, SoundPhandles}
-use Rattle.cpus.specs.answers.Check.{mpidrAt, phandleReadings}
-use Rattle.cpus.proofs.RegMeans.{reg-bounds, value-reg, MpidrSays, mpidr-says, PhandleSays, phandle-says}
-use Rattle.cpus.proofs.PairMeans.{mpidr-apart}
+use Rattle.cpus.specs.answers.Check.{regAt, phandleReadings}
+use Rattle.cpus.proofs.RegMeans.{reg-lower, value-reg, RegSays, reg-says, PhandleSays, phandle-says}
+use Rattle.cpus.proofs.PairMeans.{pair-apart}
 use Rattle.cpus.proofs.FaultMeans.{Root, CountRange, name-told, address-told, size-told, count-told}
 
 -- records of which neither can be the earlier are the same
@@ -32,14 +32,14 @@ module _ {b : Board} (sized : WordSized b) (well : WellFormed b) where
     pub count-range : CountRange b
     count-range = held (count-told sized well) (sound 10 0)
 
-    -- each cpu record has a `reg`, which is its MPIDR ..
-    pub cpu-reg : {i : ℕ} → Cpu b i → (u : ℕ) × (l : ℕ) × Reg b i u l × (mpidrAt b i ≡ mpidr u l)
-    cpu-reg {i} c = go (mpidr-says sized well i (root-given .cells))
+    -- each cpu record has a `reg` ..
+    pub cpu-reg : {i : ℕ} → Cpu b i → (u : ℕ) × (l : ℕ) × Reg b i u l × (regAt b i ≡ regNumber u l)
+    cpu-reg {i} c = go (reg-says sized well i (root-given .cells))
       where
-        go : {q : CpuReading} → MpidrSays b i q → (u : ℕ) × (l : ℕ) × Reg b i u l × (q .value ≡ mpidr u l)
-        go (MpidrSays.reg {u = u} {l = l} _ r e) = (u, l, r, e)
-        go (MpidrSays.untyped f) = absurd (sound 11 i (CpuRule.cpuDeviceType i c f))
-        go (MpidrSays.unread _ f) = absurd (sound 12 i (CpuRule.cpuReg i c f))
+        go : {q : CpuReading} → RegSays b i q → (u : ℕ) × (l : ℕ) × Reg b i u l × (q .value ≡ regNumber u l)
+        go (RegSays.reg {u = u} {l = l} _ r e) = (u, l, r, e)
+        go (RegSays.untyped f) = absurd (sound 11 i (CpuRule.cpuDeviceType i c f))
+        go (RegSays.unread _ f) = absurd (sound 12 i (CpuRule.cpuReg i c f))
 
     -- .. and no other cpu record has the same
     pub reg-apart : {i j u l : ℕ} → Cpu b i → Cpu b j → Reg b i u l → Reg b j u l → i ≡ j
@@ -48,13 +48,11 @@ module _ {b : Board} (sized : WordSized b) (well : WellFormed b) where
         later : {i j u l : ℕ} → Cpu b i → Cpu b j → Reg b i u l → Reg b j u l → j < i → ⊥
         later {i} {j} c d r s lt = let t = value-reg well r s in sound 13 i (CpuRule.duplicateCpuReg i j (t .0) c d lt (t .1) (t .2))
 
-    pub mpidr-distinct : {i j : ℕ} → Cpu b i → Cpu b j → mpidrAt b i ≡ mpidrAt b j → i ≡ j
-    mpidr-distinct c d e =
+    pub reg-distinct : {i j : ℕ} → Cpu b i → Cpu b j → regAt b i ≡ regAt b j → i ≡ j
+    reg-distinct c d e =
         let r = cpu-reg c in
         let s = cpu-reg d in
-        let g = reg-bounds (r .2) in
-        let h = reg-bounds (s .2) in
-        let p = mpidr-apart (r .0) (r .1) (g .0) (g .1) (s .0) (s .1) (h .0) (h .1) (sym (r .3) ∙ e ∙ s .3) in
+        let p = pair-apart (r .0) (r .1) (reg-lower (r .2)) (s .0) (s .1) (reg-lower (s .2)) (sym (r .3) ∙ e ∙ s .3) in
         reg-apart c d (r .2) (rw (p .0, p .1) (s .2))
 
   module _ (sound : SoundPhandles b) where

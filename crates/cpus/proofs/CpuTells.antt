@@ -17,7 +17,7 @@ use Rattle.cpus.specs.declared.Value.{Value}
 use Rattle.cpus.specs.answers.Cell.{cellOf}
 use Rattle.cpus.specs.facts.Rules.{CpuRule, SoundCpus, PhandleRule, SoundPhandles}
 use Rattle.cpus.specs.answers.Check.{isCpu, addressCells, nameFault, addressFault, sizeFault, toldOfRoot, rootFault, cpuCount}
-use Rattle.cpus.specs.answers.Check.{countFault, mpidrReadings, phandleReadings, cpuFault, cpusFault, phandlesFault}
+use Rattle.cpus.specs.answers.Check.{countFault, regReadings, phandleReadings, cpuFault, cpusFault, phandlesFault}
 use Rattle.cpus.proofs.ScanLaws.{first-gathered}
 use Rattle.cpus.proofs.RegMeans.{CellsRead, value-reg}
 use Rattle.cpus.proofs.FaultMeans.{CpuSays, OwnPhandle, cpuFaultAt, phandleFaultAt, name-told, address-told}
@@ -27,8 +27,8 @@ use Rattle.cpus.proofs.RuleMeans.{size-broken, count-broken, cpu-broken
 
 -- the stages of the cpu records, place by place
 module _ (b : Board) where
-  cpu-places : cpuFault b ≡ withSecond (λ i. mpidrReadings b i .second) (firstFault (cpuFaultAt b) (nodeCount (b .nodes)))
-  cpu-places = first-gathered (isCpu (b .nodes) (b .pool)) (mpidrReadings b) 13 (nodeCount (b .nodes))
+  cpu-places : cpuFault b ≡ withSecond (λ i. regReadings b i .second) (firstFault (cpuFaultAt b) (nodeCount (b .nodes)))
+  cpu-places = first-gathered (isCpu (b .nodes) (b .pool)) (regReadings b) 13 (nodeCount (b .nodes))
 
   phandle-places : phandlesFault b ≡ withSecond (λ i. phandleReadings b i .second) (firstFault (phandleFaultAt b) (nodeCount (b .nodes)))
   phandle-places = first-gathered (isCpu (b .nodes) (b .pool)) (phandleReadings b) 17 (nodeCount (b .nodes))
@@ -72,7 +72,7 @@ module _ {b : Board} (sized : WordSized b) (well : WellFormed b) where
       then-tells stage (CpuRule b) (omega arith) (omega arith)
       (once-tells stage (CpuRule b) 10 (omega arith) (λ m q r e. count-broken well (rw e at (staged r))) (count-told sized well)) λ _.
       rw (cpu-places b)
-      (second-tells (λ i. mpidrReadings b i .second)
+      (second-tells (λ i. regReadings b i .second)
       (stage-tells stage (CpuRule b) (stage 11) (nodeCount (b .nodes)) (cpuFaultAt b)
       (cpu-stage (held (address-told sized well) (λ r. none 36 0 (r, omega arith, omega arith))))))
 

@@ -14,22 +14,22 @@ use Rattle.wellformed.specs.facts.Rules.{WellFormed}
 use Rattle.wellformed.proofs.WellFormedLaws.{wf-nodes, wf-name}
 use Rattle.cpus.specs.declared.RootCells.{RootCells}
 use Rattle.tables.specs.facts.Binding.{deviceTypeKey, cpusWord, cpuString, sizeCellsKey}
-use Rattle.cpus.specs.facts.Node.{Cpu, AddressCells, SizeCells, Reg, mpidr, Phandle}
+use Rattle.cpus.specs.facts.Node.{Cpu, AddressCells, SizeCells, Reg, regNumber, Phandle}
 use Rattle.laws.specs.facts.Limits.{maxCpus}
 use Rattle.cpus.specs.facts.Rules.{CpuRule, PhandleRule}
 use Rattle.cpus.specs.answers.Cell.{cellOf, isNumber}
 use Rattle.cpus.specs.declared.CpuReading.{CpuReading}
 use Rattle.cpus.specs.answers.Numbers.{unlessSeen}
 use Rattle.cpus.specs.answers.Check.{addressCells, cellsOf, nameFault, addressFault, sizeFault, isCpu}
-use Rattle.cpus.specs.answers.Check.{cpuCount, cpuList, countFault, mpidrReadings}
+use Rattle.cpus.specs.answers.Check.{cpuCount, cpuList, countFault, regReadings}
 use Rattle.cpus.specs.answers.Check.{phandleReadings}
 use Rattle.cpus.proofs.ScanLaws.{gatherFault, seen-decides}
 use Rattle.tables.proofs.DecideLaws.{range-test}
 use Rattle.cpus.proofs.CpuMeans.{cpu-test, cpu-listing, cpu-count}
 use Rattle.cpus.proofs.ValueMeans.{number-test}
-use Rattle.cpus.proofs.RegMeans.{countOf, CellsRead, CellsSay, cells-say, reg-bounds, reg-unique, MpidrSays, mpidr-says, mpidr-read}
+use Rattle.cpus.proofs.RegMeans.{countOf, CellsRead, CellsSay, cells-say, reg-lower, reg-unique, RegSays, reg-says, reg-read}
 use Rattle.cpus.proofs.RegMeans.{PhandleSays, phandle-says, phandle-read, phandle-unique}
-use Rattle.cpus.proofs.PairMeans.{mpidr-apart}
+use Rattle.cpus.proofs.PairMeans.{pair-apart}
 
 -- rules 9, 36 and 37
 pub record Root (b : Board) : Type 0 where
@@ -55,7 +55,7 @@ OwnPhandle b i = Cpu b i → (h : ℕ) × Phandle b i h × ((j : ℕ) → j < i 
 
 -- what the cpu records tell, place by place
 abbrev pub cpuFaultAt : Board → ℕ → ℕ
-cpuFaultAt b = gatherFault (isCpu (b .nodes) (b .pool)) (mpidrReadings b) 13
+cpuFaultAt b = gatherFault (isCpu (b .nodes) (b .pool)) (regReadings b) 13
 
 abbrev pub phandleFaultAt : Board → ℕ → ℕ
 phandleFaultAt b = gatherFault (isCpu (b .nodes) (b .pool)) (phandleReadings b) 17
@@ -109,42 +109,40 @@ module _ {b : Board} (sized : WordSized b) (well : WellFormed b) where
       CellsRead b →
       {i j u l : ℕ} →
       Reg b i u l →
-      mpidrReadings b i .number ≡ 0 →
-      mpidrReadings b j .number ≡ 0 →
-      Decides (eqb (mpidrReadings b j .value) (mpidrReadings b i .value)) (Reg b j u l)
+      regReadings b i .number ≡ 0 →
+      regReadings b j .number ≡ 0 →
+      Decides (eqb (regReadings b j .value) (regReadings b i .value)) (Reg b j u l)
   same-reg a {i} {j} {u} {l} r zi zj =
-      let s = mpidr-read sized well i a zi in
-      let t = mpidr-read sized well j a zj in
+      let s = reg-read sized well i a zi in
+      let t = reg-read sized well j a zj in
       let own = reg-unique well (s .2) r in
-      decides-as (eq-decides (mpidrReadings b j .value) (mpidrReadings b i .value))
+      decides-as (eq-decides (regReadings b j .value) (regReadings b i .value))
       (λ e.
-      let g = reg-bounds (t .2) in
-      let h = reg-bounds (s .2) in
-      let p = mpidr-apart (t .0) (t .1) (g .0) (g .1) (s .0) (s .1) (h .0) (h .1) (sym (t .3) ∙ e ∙ s .3) in
+      let p = pair-apart (t .0) (t .1) (reg-lower (t .2)) (s .0) (s .1) (reg-lower (s .2)) (sym (t .3) ∙ e ∙ s .3) in
       rw (← own .0, ← own .1, ← p .0, ← p .1) (t .2))
-      (λ q. let other = reg-unique well (t .2) q in t .3 ∙ ap₂ mpidr (other .0) (other .1) ∙ sym (s .3 ∙ ap₂ mpidr (own .0) (own .1)))
+      (λ q. let other = reg-unique well (t .2) q in t .3 ∙ ap₂ regNumber (other .0) (other .1) ∙ sym (s .3 ∙ ap₂ regNumber (own .0) (own .1)))
 
   pub cpu-says : CellsRead b → (i : ℕ) → ((j : ℕ) → j < i → cpuFaultAt b j ≡ 0) → CpuSays b i (cpuFaultAt b i)
   unfolding gatherFault
   cpu-says a i none =
-      go (isCpu (b .nodes) (b .pool) i) (cpu-test well i) (mpidr-says sized well i a) _
-      (λ u l r z. seen-decides (isCpu (b .nodes) (b .pool)) (mpidrReadings b) 13 i none (λ j. same-reg a r z))
+      go (isCpu (b .nodes) (b .pool) i) (cpu-test well i) (reg-says sized well i a) _
+      (λ u l r z. seen-decides (isCpu (b .nodes) (b .pool)) (regReadings b) 13 i none (λ j. same-reg a r z))
     where
       go :
           (t : Bool) →
           Decides t (Cpu b i) →
           {q : CpuReading} →
-          MpidrSays b i q →
+          RegSays b i q →
           (seen : Bool) →
           ((u l : ℕ) → Reg b i u l → q .number ≡ 0 → Decides seen ((j : ℕ) × (j < i) × ((isCpu (b .nodes) (b .pool) j ≡ true) × Reg b j u l))) →
           CpuSays b i (cond t (unlessSeen 13 seen q .number) 0)
       go false cpu q seen e = CpuSays.other (decides-not cpu .0 refl)
-      go true cpu (MpidrSays.untyped f) seen e = CpuSays.untyped (cpu .0 refl) f
-      go true cpu (MpidrSays.unread k f) seen e = CpuSays.unread (cpu .0 refl) k f
-      go true cpu (MpidrSays.reg {u = u} {l = l} k r _) true e =
+      go true cpu (RegSays.untyped f) seen e = CpuSays.untyped (cpu .0 refl) f
+      go true cpu (RegSays.unread k f) seen e = CpuSays.unread (cpu .0 refl) k f
+      go true cpu (RegSays.reg {u = u} {l = l} k r _) true e =
           let t = e u l r refl .0 refl in
           CpuSays.repeated (cpu .0 refl) k r (t .1) (cpu-test well (t .0) .0 (t .2 .0)) (t .2 .1)
-      go true cpu (MpidrSays.reg {u = u} {l = l} k r _) false e =
+      go true cpu (RegSays.reg {u = u} {l = l} k r _) false e =
           CpuSays.sound (cpu .0 refl) k r (λ j lt c s. decides-not (e u l r refl) .0 refl (j, lt, (cpu-test well j .1 c, s)))
 
   pub phandle-told : (i : ℕ) → ((j : ℕ) → j < i → phandleFaultAt b j ≡ 0) → Verdict (PhandleRule b) 17 i (OwnPhandle b i) (phandleFaultAt b i)

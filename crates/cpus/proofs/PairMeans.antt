@@ -1,4 +1,4 @@
--- Numbers of one cell and of two: their bytes, and an MPIDR of two cells. Assumes nothing.
+-- Numbers of one cell and of two: their bytes, and the number of a `reg`. Assumes nothing.
 use mathlib.Core.Path.{_≡_, refl, ap, ap₂, _∙_}
 use mathlib.Core.Bool.{true}
 use mathlib.Core.List.{List, _++_}
@@ -14,7 +14,7 @@ use Rattle.tables.specs.facts.Property.{cellAt}
 use Rattle.tables.proofs.CellLaws.{cell-bytes, cell-bytes-apart, cell-lt}
 use Rattle.cpus.specs.declared.Cells.{Cells}
 use Rattle.cpus.specs.declared.Cells.the-variants.{One, Two}
-use Rattle.cpus.specs.facts.Node.{mpidr}
+use Rattle.cpus.specs.facts.Node.{regNumber}
 use Rattle.cpus.specs.answers.Cell.{sizeOf, cellsAt}
 
 -- the numbers of one cell, or of two, and their bytes: of two, the upper cell and the lower
@@ -60,14 +60,13 @@ pub affine-decides : (m : ℕ) → Decides (isAffine m) ((m / 2 ^ 40 ≡ 0) × (
 unfolding isAffine
 affine-decides m = both-decides (eq-decides (m / 2 ^ 40) 0) (eq-decides (m / 2 ^ 24 % 256) 0)
 
--- an MPIDR of two cells
-module _ (u l : ℕ) (hu : u < 2 ^ 8) (hl : l < 2 ^ 24) where
-  pub parts-affine : isAffine (mpidr u l) ≡ true
-  parts-affine = affine-decides (mpidr u l) .1 (omega arith, omega arith)
+pub parts-affine : (u l : ℕ) → u < 2 ^ 8 → l < 2 ^ 24 → isAffine (regNumber u l) ≡ true
+parts-affine u l hu hl = affine-decides (regNumber u l) .1 (omega arith, omega arith)
 
-  pub mpidr-parts : (mpidr u l / 2 ^ 32 ≡ u) × (mpidr u l % 2 ^ 32 ≡ l)
-  mpidr-parts = (omega arith, omega arith)
+-- the cells of a `reg`'s number; different cells make different numbers
+module _ (u l : ℕ) (hl : l < 2 ^ 32) where
+  pub pair-parts : (regNumber u l / 2 ^ 32 ≡ u) × (regNumber u l % 2 ^ 32 ≡ l)
+  pair-parts = (omega arith, omega arith)
 
-  -- different cells make different MPIDRs
-  pub mpidr-apart : (v m : ℕ) → v < 2 ^ 8 → m < 2 ^ 24 → mpidr u l ≡ mpidr v m → (u ≡ v) × (l ≡ m)
-  mpidr-apart v m hv hm e = (omega arith, omega arith)
+  pub pair-apart : (v m : ℕ) → m < 2 ^ 32 → regNumber u l ≡ regNumber v m → (u ≡ v) × (l ≡ m)
+  pair-apart v m hm e = (omega arith, omega arith)

@@ -6,14 +6,14 @@ use mathlib.Core.List.{List}
 use Prim.Native.Nat.{ℕ, _/_, _%_, _^_, _<_}
 use native.Mathlib.Omega.{arith}
 use lib.Dec.{eqb}
-use borrow.Author.Tests.{eqb-true, eqb-false}
+use borrow.Author.Tests.{eqb-true, eqb-false, eq-eqb, ne-eqb}
 use Rattle.laws.specs.facts.Limits.{noProperty}
 use Rattle.laws.proofs.SearchLaws.{true-false}
 use Rattle.laws.proofs.DecideLaws.{Decides, decides-not}
 use Rattle.affinity.specs.facts.Level.{Affine}
 use Rattle.affinity.specs.answers.Level.{isAffine}
 use Rattle.affinity.proofs.AffineLaws.{test-affine}
-use Rattle.tables.specs.facts.Board.{Board, WordSized}
+use Rattle.tables.specs.facts.Board.{Board, WordSized, arm64, riscv, HasMpidrs}
 use Rattle.tables.specs.facts.Property.{HasValue, cellBytes}
 use Rattle.tables.specs.declared.Lookup.{Lookup}
 use Rattle.tables.specs.answers.Lookup.{lookup, recordOf}
@@ -27,15 +27,15 @@ use Rattle.cpus.specs.declared.Value.{Value}
 use Rattle.cpus.specs.declared.Value.the-variants.{Number, Invalid}
 use Rattle.cpus.specs.declared.CpuReading.{CpuReading}
 use Rattle.tables.specs.facts.Binding.{regKey, phandleKey, deviceTypeKey, cpuString, addressCellsKey}
-use Rattle.cpus.specs.answers.Cell.{cpuCell, affineOnly, phandleIn, cellOf}
-use Rattle.cpus.specs.facts.Node.{CellsAllowed, AddressCells, Reg, mpidr, Phandle}
-use Rattle.cpus.specs.answers.Check.{cellsFor, addressCells, regCells, mpidrReadings, phandleReadings}
+use Rattle.cpus.specs.answers.Cell.{cpuCell, isReg, regIn, phandleIn, cellOf}
+use Rattle.cpus.specs.facts.Node.{CellsAllowed, AddressCells, OnlyCell, Reg, regNumber, Phandle}
+use Rattle.cpus.specs.answers.Check.{cellsFor, addressCells, regCells, regReadings, phandleReadings}
 use Rattle.cpus.specs.answers.Numbers.{cpuReading, numberOr, readingFrom, readingOf}
-use Rattle.cpus.proofs.PairMeans.{limit, valueBytes, bytes-length, bytes-apart, affine-decides, parts-affine, mpidr-parts, mpidr-apart}
+use Rattle.cpus.proofs.PairMeans.{limit, valueBytes, bytes-length, bytes-apart, affine-decides, parts-affine, pair-parts, pair-apart}
 use Rattle.cpus.proofs.ValueMeans.{value-unique, ValueSays, value-says, cell-says, number-test}
 
--- one address cell, or on width 64 two
-cells-cases : {width n : ℕ} → CellsAllowed width n → (n ≡ 1) ⊎ ((n ≡ 2) × (width ≡ 64))
+-- one address cell, or on 64-bit ARM two
+cells-cases : {width n : ℕ} → CellsAllowed width n → (n ≡ 1) ⊎ ((n ≡ 2) × (width ≡ arm64))
 cells-cases CellsAllowed.one = inl refl
 cells-cases CellsAllowed.two = inr (refl, refl)
 
@@ -55,13 +55,44 @@ pub data CellsSay (b : Board) : RootCells → Type 0 where
   cells : {c : Cells} → AddressCells b (countOf c) → CellsSay b (Are c)
   none : ((n : ℕ) → AddressCells b n → ⊥) → CellsSay b Broken
 
--- the two cells of a `reg` have affinity bits alone
-pub reg-bounds : {b : Board} {i u l : ℕ} → Reg b i u l → (u < 2 ^ 8) × (l < 2 ^ 24)
-reg-bounds (Reg.oneCell a h lt) = (omega arith, lt)
-reg-bounds (Reg.twoCells a h hu hl) = (hu, hl)
+-- two address cells are of MPIDRs
+two-mpidrs : {b : Board} → AddressCells b 2 → HasMpidrs b
+two-mpidrs a e = ⊎-elim (λ one. omega arith) (λ t. omega (arith, t .1)) (cells-cases (a .allowed))
 
-pub reg-affine : {b : Board} {i u l : ℕ} → Reg b i u l → Affine (mpidr u l)
-reg-affine {b} {i} {u} {l} r = let t = reg-bounds r in test-affine (mpidr u l) (parts-affine u l (t .0) (t .1))
+-- the test of an MPIDR, and of a `reg`'s only cell
+mpidr-test : (width n : ℕ) → (width ≡ riscv → ⊥) → isReg width n ≡ isAffine n
+unfolding isReg
+mpidr-test width n has = rw (ne-eqb width riscv has)
+
+module _ {b : Board} {n : ℕ} where
+  only-test : OnlyCell b n → isReg (b .width) n ≡ true
+  unfolding isReg
+  only-test (OnlyCell.affinity has lt) = rw (ne-eqb (b .width) riscv has) (affine-decides n .1 (omega arith, omega arith))
+  only-test (OnlyCell.hart e lt) = rw (eq-eqb (b .width) riscv e)
+
+  test-only : n < 2 ^ 32 → isReg (b .width) n ≡ true → OnlyCell b n
+  unfolding isReg
+  test-only lt = go (eqb (b .width) riscv) refl
+    where
+      go : (t : Bool) → eqb (b .width) riscv ≡ t → cond t true (isAffine n) ≡ true → OnlyCell b n
+      go true e h = OnlyCell.hart (eqb-true (b .width) riscv e) lt
+      go false e h = let t = affine-decides n .0 h in OnlyCell.affinity (eqb-false (b .width) riscv e) (omega (arith, t))
+
+  only-lt : OnlyCell b n → n < 2 ^ 32
+  only-lt (OnlyCell.affinity has lt) = omega arith
+  only-lt (OnlyCell.hart e lt) = lt
+
+-- the lower cell of a `reg`, the test of its number, and the affinity bits of an MPIDR
+pub reg-lower : {b : Board} {i u l : ℕ} → Reg b i u l → l < 2 ^ 32
+reg-lower (Reg.oneCell a h c) = only-lt c
+reg-lower (Reg.twoCells a h hu hl) = omega arith
+
+reg-test : {b : Board} {i u l : ℕ} → Reg b i u l → isReg (b .width) (regNumber u l) ≡ true
+reg-test (Reg.oneCell {lower = l} a h c) = let e : regNumber 0 l ≡ l = omega arith in rw e (only-test c)
+reg-test {b} (Reg.twoCells {upper = u} {lower = l} a h hu hl) = mpidr-test (b .width) (regNumber u l) (two-mpidrs a) ∙ parts-affine u l hu hl
+
+pub reg-affine : {b : Board} {i u l : ℕ} → HasMpidrs b → Reg b i u l → Affine (regNumber u l)
+reg-affine {b} {u = u} {l = l} has r = test-affine (regNumber u l) (sym (mpidr-test (b .width) (regNumber u l) has) ∙ reg-test r)
 
 module _ {b : Board} (well : WellFormed b) where
   cells-unique : {m n : ℕ} → AddressCells b m → AddressCells b n → m ≡ n
@@ -72,20 +103,20 @@ module _ {b : Board} (well : WellFormed b) where
 
   -- the same bytes are the same `reg` ..
   pub reg-value : {i j u l : ℕ} {v : List ℕ} → HasValue b i regKey v → HasValue b j regKey v → Reg b i u l → Reg b j u l
-  reg-value g h (Reg.oneCell a r lt) = Reg.oneCell a (rw (value-unique well g r) at h) lt
+  reg-value g h (Reg.oneCell a r c) = Reg.oneCell a (rw (value-unique well g r) at h) c
   reg-value g h (Reg.twoCells a r hu hl) = Reg.twoCells a (rw (value-unique well g r) at h) hu hl
 
-  -- a `reg` is a value of so many cells, its MPIDR
+  -- a `reg` is a value of so many cells, its number
   reg-number :
       (c : Cells) →
       AddressCells b (countOf c) →
       {i u l : ℕ} →
       Reg b i u l →
-      HasValue b i regKey (valueBytes c (mpidr u l)) × (mpidr u l < limit c)
-  reg-number One a (Reg.oneCell {lower = l} _ h lt) = let e : mpidr 0 l ≡ l = omega arith in (rw e h, omega arith)
+      HasValue b i regKey (valueBytes c (regNumber u l)) × (regNumber u l < limit c)
+  reg-number One a (Reg.oneCell {lower = l} _ h c) = let e : regNumber 0 l ≡ l = omega arith in (rw e h, omega (arith, only-lt c))
   reg-number One a (Reg.twoCells c h _ _) = not-both a c
   reg-number Two a (Reg.oneCell c h _) = not-both c a
-  reg-number Two a (Reg.twoCells {upper = u} {lower = l} _ h hu hl) = let t = mpidr-parts u l hu hl in (rw (t .0, t .1) h, omega arith)
+  reg-number Two a (Reg.twoCells {upper = u} {lower = l} _ h hu hl) = let t = pair-parts u l (omega arith) in (rw (t .0, t .1) h, omega arith)
 
   reg-cells : {i u l : ℕ} → Reg b i u l → (c : Cells) × AddressCells b (countOf c)
   reg-cells (Reg.oneCell a h _) = (One, a)
@@ -95,35 +126,31 @@ module _ {b : Board} (well : WellFormed b) where
   pub value-reg : {i j u l : ℕ} → Reg b i u l → Reg b j u l → (v : List ℕ) × HasValue b i regKey v × HasValue b j regKey v
   value-reg {u = u} {l = l} r s =
       let c = reg-cells r in
-      (valueBytes (c .0) (mpidr u l), reg-number (c .0) (c .1) r .0, reg-number (c .0) (c .1) s .0)
+      (valueBytes (c .0) (regNumber u l), reg-number (c .0) (c .1) r .0, reg-number (c .0) (c .1) s .0)
 
   -- a record has one `reg`
-  same-mpidr :
-      (c : Cells) → AddressCells b (countOf c) → {i u l n : ℕ} → Reg b i u l → HasValue b i regKey (valueBytes c n) → n < limit c → mpidr u l ≡ n
-  same-mpidr c a {u = u} {l = l} {n = n} r h lt = let t = reg-number c a r in bytes-apart c (mpidr u l) n (t .1) lt (value-unique well (t .0) h)
+  same-number :
+      (c : Cells) → AddressCells b (countOf c) → {i u l n : ℕ} → Reg b i u l → HasValue b i regKey (valueBytes c n) → n < limit c → regNumber u l ≡ n
+  same-number c a {u = u} {l = l} {n = n} r h lt = let t = reg-number c a r in bytes-apart c (regNumber u l) n (t .1) lt (value-unique well (t .0) h)
 
   pub reg-unique : {i u l v m : ℕ} → Reg b i u l → Reg b i v m → (u ≡ v) × (l ≡ m)
   reg-unique {i} {u} {l} {v} {m} r s =
       let c = reg-cells r in
       let t = reg-number (c .0) (c .1) s in
-      let g = reg-bounds r in
-      let h = reg-bounds s in
-      mpidr-apart u l (g .0) (g .1) v m (h .0) (h .1) (same-mpidr (c .0) (c .1) r (t .0) (t .1))
+      pair-apart u l (reg-lower r) v m (reg-lower s) (same-number (c .0) (c .1) r (t .0) (t .1))
 
-  -- a value with affinity bits alone is a `reg`
+  -- a value that may be a `reg` is one
   number-reg :
       (c : Cells) →
       AddressCells b (countOf c) →
       {i n : ℕ} →
       HasValue b i regKey (valueBytes c n) →
       n < limit c →
-      isAffine n ≡ true →
-      (u : ℕ) × (l : ℕ) × Reg b i u l × (n ≡ mpidr u l)
-  number-reg One a {n = n} h lt e =
-      let t = affine-decides n .0 e in
-      (0, n, Reg.oneCell a h (omega (arith, t)), omega arith)
+      isReg (b .width) n ≡ true →
+      (u : ℕ) × (l : ℕ) × Reg b i u l × (n ≡ regNumber u l)
+  number-reg One a {n = n} h lt e = (0, n, Reg.oneCell a h (test-only lt e), omega arith)
   number-reg Two a {n = n} h lt e =
-      let t = affine-decides n .0 e in
+      let t = affine-decides n .0 (sym (mpidr-test (b .width) n (two-mpidrs a)) ∙ e) in
       (n / 2 ^ 32, n % 2 ^ 32, Reg.twoCells a h (omega (arith, t)) (omega (arith, t)), omega arith)
 
 module _ {b : Board} (sized : WordSized b) (well : WellFormed b) where
@@ -136,7 +163,7 @@ module _ {b : Board} (sized : WordSized b) (well : WellFormed b) where
           HasValue b 0 addressCellsKey (cellBytes w) →
           w < 2 ^ 32 →
           (w ≡ 1 → ⊥) →
-          (w ≡ 2 → b .width ≡ 64 → ⊥) →
+          (w ≡ 2 → b .width ≡ arm64 → ⊥) →
           (n : ℕ) →
           AddressCells b n →
           ⊥
@@ -153,23 +180,23 @@ module _ {b : Board} (sized : WordSized b) (well : WellFormed b) where
           (s : Bool) →
           eqb w 2 ≡ s →
           (r : Bool) →
-          eqb (b .width) 64 ≡ r →
+          eqb (b .width) arm64 ≡ r →
           CellsSay b (cond t (Are One) (cond s (cond r (Are Two) Broken) Broken))
       pick {w} h lt true e s f r g = CellsSay.cells {c = One} (record { value = rw (eqb-true w 1 e) at h; allowed = CellsAllowed.one })
       pick {w} h lt false e true f true g =
-          CellsSay.cells {c = Two} (record { value = rw (eqb-true w 2 f) at h; allowed = rw (eqb-true (b .width) 64 g) CellsAllowed.two })
-      pick {w} h lt false e true f false g = CellsSay.none (refuse h lt (eqb-false w 1 e) (λ _. eqb-false (b .width) 64 g))
+          CellsSay.cells {c = Two} (record { value = rw (eqb-true w 2 f) at h; allowed = rw (eqb-true (b .width) arm64 g) CellsAllowed.two })
+      pick {w} h lt false e true f false g = CellsSay.none (refuse h lt (eqb-false w 1 e) (λ _. eqb-false (b .width) arm64 g))
       pick {w} h lt false e false f r g = CellsSay.none (refuse h lt (eqb-false w 1 e) (λ q _. eqb-false w 2 f q))
 
       go : {v : Value} → ValueSays b One 0 addressCellsKey v → CellsSay b (cellsFor (b .width) v)
-      go (ValueSays.number {n = w} h lt) = pick h lt (eqb w 1) refl (eqb w 2) refl (eqb (b .width) 64) refl
+      go (ValueSays.number {n = w} h lt) = pick h lt (eqb w 1) refl (eqb w 2) refl (eqb (b .width) arm64) refl
       go (ValueSays.none n) = CellsSay.none (λ m a. n (cellBytes m) (a .value) refl)
 
--- what a cpu record's MPIDR is read as: its `reg`, or the rule that is broken
-pub data MpidrSays (b : Board) (i : ℕ) : CpuReading → Type 0 where
-  untyped : {s : ℕ} → (HasValue b i deviceTypeKey cpuString → ⊥) → MpidrSays b i (cpuReading 11 s 0)
-  unread : {s : ℕ} → HasValue b i deviceTypeKey cpuString → ((u l : ℕ) → Reg b i u l → ⊥) → MpidrSays b i (cpuReading 12 s 0)
-  reg : {s u l m : ℕ} → HasValue b i deviceTypeKey cpuString → Reg b i u l → m ≡ mpidr u l → MpidrSays b i (cpuReading 0 s m)
+-- what a cpu record's `reg` is read as: its number, or the rule that is broken
+pub data RegSays (b : Board) (i : ℕ) : CpuReading → Type 0 where
+  untyped : {s : ℕ} → (HasValue b i deviceTypeKey cpuString → ⊥) → RegSays b i (cpuReading 11 s 0)
+  unread : {s : ℕ} → HasValue b i deviceTypeKey cpuString → ((u l : ℕ) → Reg b i u l → ⊥) → RegSays b i (cpuReading 12 s 0)
+  reg : {s u l m : ℕ} → HasValue b i deviceTypeKey cpuString → Reg b i u l → m ≡ regNumber u l → RegSays b i (cpuReading 0 s m)
 
 -- and its `phandle`
 pub data PhandleSays (b : Board) (i : ℕ) : CpuReading → Type 0 where
@@ -185,9 +212,9 @@ module _ {b : Board} (sized : WordSized b) (well : WellFormed b) (i : ℕ) where
   at key = lookup (b .props) (b .pool) i key
 
   module _ (a : CellsRead b) where
-    pub mpidr-says : MpidrSays b i (mpidrReadings b i)
+    pub reg-says : RegSays b i (regReadings b i)
     unfolding readingFrom readingOf cellOf
-    mpidr-says = go _ (number-test sized well i deviceTypeKey cpuCell (omega arith)) (value-says sized well i regKey (regCells b))
+    reg-says = go _ (number-test sized well i deviceTypeKey cpuCell (omega arith)) (value-says sized well i regKey (regCells b))
       where
         pick :
             {n : ℕ} →
@@ -195,32 +222,32 @@ module _ {b : Board} (sized : WordSized b) (well : WellFormed b) (i : ℕ) where
             HasValue b i regKey (valueBytes (regCells b) n) →
             n < limit (regCells b) →
             (t : Bool) →
-            isAffine n ≡ t →
-            MpidrSays b i (numberOr 12 (at regKey) noProperty (cond t (Number n) Invalid))
-        pick kind h lt true e = let t = number-reg well (regCells b) a h lt e in MpidrSays.reg kind (t .2) (t .3)
+            isReg (b .width) n ≡ t →
+            RegSays b i (numberOr 12 (at regKey) noProperty (cond t (Number n) Invalid))
+        pick kind h lt true e = let t = number-reg well (regCells b) a h lt e in RegSays.reg kind (t .2) (t .3)
         pick kind h lt false e =
-            MpidrSays.unread kind
-            (λ u l r. let g = reg-bounds r in true-false (parts-affine u l (g .0) (g .1)) (ap isAffine (same-mpidr well (regCells b) a r h lt) ∙ e))
+            RegSays.unread kind
+            (λ u l r. true-false (reg-test r) (ap (isReg (b .width)) (same-number well (regCells b) a r h lt) ∙ e))
 
         go :
             (s : Bool) →
             Decides s (HasValue b i deviceTypeKey cpuString) →
             {v : Value} →
             ValueSays b (regCells b) i regKey v →
-            MpidrSays b i (cond s (numberOr 12 (at regKey) noProperty (affineOnly v)) (cpuReading 11 (recordOf (at deviceTypeKey)) 0))
-        go false kind v = MpidrSays.untyped (decides-not kind .0 refl)
-        go true kind (ValueSays.number {n = n} h lt) = pick (kind .0 refl) h lt (isAffine n) refl
+            RegSays b i (cond s (numberOr 12 (at regKey) noProperty (regIn (b .width) v)) (cpuReading 11 (recordOf (at deviceTypeKey)) 0))
+        go false kind v = RegSays.untyped (decides-not kind .0 refl)
+        go true kind (ValueSays.number {n = n} h lt) = pick (kind .0 refl) h lt (isReg (b .width) n) refl
         go true kind (ValueSays.none f) =
-            MpidrSays.unread (kind .0 refl) (λ u l r. f _ (reg-number well (regCells b) a r .0) (bytes-length (regCells b) (mpidr u l)))
+            RegSays.unread (kind .0 refl) (λ u l r. f _ (reg-number well (regCells b) a r .0) (bytes-length (regCells b) (regNumber u l)))
 
     -- a sound reading is the `reg`
-    pub mpidr-read : mpidrReadings b i .number ≡ 0 → (u : ℕ) × (l : ℕ) × Reg b i u l × (mpidrReadings b i .value ≡ mpidr u l)
-    mpidr-read = go mpidr-says
+    pub reg-read : regReadings b i .number ≡ 0 → (u : ℕ) × (l : ℕ) × Reg b i u l × (regReadings b i .value ≡ regNumber u l)
+    reg-read = go reg-says
       where
-        go : {q : CpuReading} → MpidrSays b i q → q .number ≡ 0 → (u : ℕ) × (l : ℕ) × Reg b i u l × (q .value ≡ mpidr u l)
-        go (MpidrSays.untyped _) z = absurd (omega arith)
-        go (MpidrSays.unread _ _) z = absurd (omega arith)
-        go (MpidrSays.reg {u = u} {l = l} _ r e) z = (u, l, r, e)
+        go : {q : CpuReading} → RegSays b i q → q .number ≡ 0 → (u : ℕ) × (l : ℕ) × Reg b i u l × (q .value ≡ regNumber u l)
+        go (RegSays.untyped _) z = absurd (omega arith)
+        go (RegSays.unread _ _) z = absurd (omega arith)
+        go (RegSays.reg {u = u} {l = l} _ r e) z = (u, l, r, e)
 
   pub phandle-says : PhandleSays b i (phandleReadings b i)
   unfolding readingFrom readingOf cellOf

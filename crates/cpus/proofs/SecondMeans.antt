@@ -21,13 +21,13 @@ use Rattle.tables.specs.answers.Lookup.{lookup, recordOf}
 use Rattle.tables.specs.answers.Range.{rangeIs}
 use Rattle.tables.proofs.SecondLaws.{spoken, HasSecond, second-found, unspoken, told-second, else-second, with-second}
 use Rattle.cpus.specs.declared.CpuNumbers.{CpuNumbers}
-use Rattle.cpus.specs.declared.CpuNumbers.the-variants.{Mpidrs, Phandles}
+use Rattle.cpus.specs.declared.CpuNumbers.the-variants.{Regs, Phandles}
 use Rattle.cpus.specs.declared.CpuReading.{CpuReading}
 use Rattle.cpus.specs.declared.RootCells.{RootCells}
 use Rattle.cpus.specs.declared.RootCells.the-variants.{Are, Broken}
 use Rattle.cpus.specs.declared.Value.{Value}
 use Rattle.cpus.specs.declared.Value.the-variants.{Number, Invalid}
-use Rattle.cpus.specs.answers.Cell.{valueIn, cellIn, cellOf, isNumber, affineOnly, phandleIn, cpuCell}
+use Rattle.cpus.specs.answers.Cell.{valueIn, cellIn, cellOf, isNumber, regIn, phandleIn, cpuCell}
 use Rattle.cpus.specs.answers.Check.{addressCells, nameFault, addressFault, sizeFault, toldOfRoot, rootFault, cpuCount, countFault, cpuFault}
 use Rattle.cpus.specs.answers.Check.{cpuList, regCells, cpusFault, phandlesFault}
 use Rattle.cpus.specs.answers.Numbers.{cpuReading, numberOr, readingFrom, readingOf, repeatRule}
@@ -77,9 +77,9 @@ module _ (b : Board) where
 
   reading-second : (w : CpuNumbers) (i : ℕ) (seen : Bool) → Says i (unlessSeen (repeatRule w) seen (readingOf w (b .props) (b .pool) i))
   unfolding readingOf readingFrom
-  reading-second (Mpidrs cells) i seen =
+  reading-second (Regs cells width) i seen =
       go seen (isNumber (cellIn (b .pool) (lookup (b .props) (b .pool) i deviceTypeKey)) cpuCell)
-      (affineOnly (valueIn (b .pool) cells (lookup (b .props) (b .pool) i regKey)))
+      (regIn width (valueIn (b .pool) cells (lookup (b .props) (b .pool) i regKey)))
     where
       go :
           (seen kind : Bool) (v : Value) →
@@ -130,7 +130,7 @@ module _ (b : Board) where
       else-second b (rootFault b) _ root-second
       (else-second b (told (countFault (cpuCount b)) 0) (cpuFault b)
       (told-second b (countFault (cpuCount b)) 0 (count (eqb (cpuCount b) 0) (ltb maxCpus (cpuCount b))))
-      (record-second (Mpidrs (regCells b)) (cpuList b)))
+      (record-second (Regs (regCells b) (b .width)) (cpuList b)))
     where
       count : (t s : Bool) → has spoken (cond t 10 (cond s 10 0)) ≡ false
       count true s = refl

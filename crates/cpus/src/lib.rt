@@ -1,4 +1,4 @@
-// Cpu nodes: the cells of `/cpus`, the cpu records with their MPIDRs and phandles, and rules 9 to 13, 17, 36 and 37.
+// Cpu nodes: the cells of `/cpus`, the cpu records with their MPIDRs or hart ids and their phandles, and rules 9 to 13, 17, 36 and 37.
 mod node;
 mod numbers;
 mod property;
@@ -37,9 +37,9 @@ pub struct RootReading {
     pub cells: Cells,
 }
 
-// The number of each cpu record to gather: its MPIDR, from a `reg` of so many cells, or its phandle.
+// The number of each cpu record to gather: its `reg`, of so many cells on a board of a width, or its phandle.
 pub enum CpuNumbers {
-    Mpidrs(Cells),
+    Regs { cells: Cells, width: u32 },
     Phandles,
 }
 

@@ -17,7 +17,7 @@ fn repeat_rule(wanted: CpuNumbers) -> u32
     ensures { λ r. ⌜ r ≡ repeatRule wanted ⌝ }
 {
     match wanted {
-        CpuNumbers::Mpidrs(_) => rules::DUPLICATE_CPU_REG,
+        CpuNumbers::Regs { cells: _, width: _ } => rules::DUPLICATE_CPU_REG,
         CpuNumbers::Phandles => rules::CPU_PHANDLE,
     }
 }

@@ -13,20 +13,31 @@ use property_index::Key;
 use property_index::find_indexed;
 use tables::Lookup;
 use tables::binding;
+use tables::boards;
 use tables::record_of;
 ghost use mathlib.Core.Path.{_≡_};
-ghost use Rattle.cpus.specs.answers.Cell.{affineOnly, phandleIn};
+ghost use Rattle.cpus.specs.answers.Cell.{isReg, regIn, phandleIn};
 ghost use Rattle.cpus.specs.answers.Numbers.{numberOr, readingAt};
 
-// An MPIDR: affinity bits alone.
-fn affine_only(value: Value) -> Value
-    ensures { λ r. ⌜ r ≡ affineOnly value ⌝ }
+// Whether a number may be a `reg` on a board of a width: a hart id always, an MPIDR with affinity bits alone.
+fn is_reg(width: u32, n: u64) -> bool
+    ensures { λ r. ⌜ r ≡ isReg width n ⌝ }
 {
-    let Value::Number(m) = value else {
+    if width == boards::RISCV {
+        return true;
+    }
+    is_affine(n)
+}
+
+// A value that may be a `reg`.
+fn reg_in(width: u32, value: Value) -> Value
+    ensures { λ r. ⌜ r ≡ regIn width value ⌝ }
+{
+    let Value::Number(n) = value else {
         return Value::Invalid;
     };
-    if is_affine(m) {
-        return Value::Number(m);
+    if is_reg(width, n) {
+        return Value::Number(n);
     }
     Value::Invalid
 }
@@ -75,7 +86,7 @@ pub fn read_record(
 ) -> CpuReading
     ensures { λ r. ⌜ r ≡ readingAt wanted (now (props .entry)) (now (pool .entry)) (now (index .entry)) i ⌝ }
 {
-    let CpuNumbers::Mpidrs(cells) = wanted else {
+    let CpuNumbers::Regs { cells, width } = wanted else {
         let found = find_indexed(props, index, i, Key::Phandle);
         let phandle = phandle_in(cell_in(pool, found));
         return number_or(rules::CPU_PHANDLE, found, record_of(found), phandle);
@@ -83,8 +94,8 @@ pub fn read_record(
     let kind = find_indexed(props, index, i, Key::DeviceType);
     if is_number(cell_in(pool, kind), binding::CPU_STRING) {
         let reg = find_indexed(props, index, i, Key::Reg);
-        let mpidr = affine_only(value_in(pool, cells, reg));
-        return number_or(rules::CPU_REG, reg, NO_PROPERTY, mpidr);
+        let number = reg_in(width, value_in(pool, cells, reg));
+        return number_or(rules::CPU_REG, reg, NO_PROPERTY, number);
     }
     CpuReading {
         number: rules::CPU_DEVICE_TYPE,

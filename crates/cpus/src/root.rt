@@ -14,6 +14,7 @@ use laws::limits::MAX_NODES;
 use laws::rules;
 use lookup::find_property;
 use tables::Lookup;
+use tables::boards;
 use tables::name_is;
 use tables::record_of;
 ghost use mathlib.Core.Path.{_≡_};
@@ -26,7 +27,7 @@ ghost use Rattle.tables.specs.answers.Lookup.{recordOf};
 ghost use Rattle.laws.specs.facts.Limits.{maxNodes};
 ghost use Rattle.cpus.specs.answers.Check.{isCpu, cellsFor, cellsOf, rootReading, countFault};
 
-// What `#address-cells` gives a board of a width: one cell, or on width 64 two.
+// What `#address-cells` gives a board of a width: one cell, or on 64-bit ARM two.
 fn cells_for(width: u32, value: Value) -> RootCells
     ensures { λ r. ⌜ r ≡ cellsFor width value ⌝ }
 {
@@ -39,7 +40,7 @@ fn cells_for(width: u32, value: Value) -> RootCells
     if n != 2 {
         return RootCells::Broken;
     }
-    if width != 64 {
+    if width != boards::ARM64 {
         return RootCells::Broken;
     }
     RootCells::Are(Cells::Two)

@@ -13,6 +13,7 @@ use Rattle.laws.specs.answers.Fault.{orElse}
 use Rattle.laws.proofs.FaultLaws.{or-first, or-second}
 use Rattle.laws.proofs.FirstLaws.{Tells}
 use Rattle.laws.proofs.RuleStageLaws.{tells-first}
+use Rattle.affinity.specs.declared.Hash.{Hash}
 use Rattle.tables.specs.facts.Board.{Board}
 use Rattle.tables.specs.facts.Second.{Second}
 use Rattle.wellformed.specs.facts.Order.{stages, stage}
@@ -31,12 +32,12 @@ pub told-first :
     Told Rule (f .number) (f .place)
 told-first le all tells ne = record { first = tells-first all tells ne; staged = omega (arith, tells .told ne .broken .2) }
 
-module _ (f : Fault) (count : ℕ) (mpidrs : List ℕ) where
+module _ (f : Fault) (count : ℕ) (hash : Hash) where
   -- the answer's number is that of the fault
-  pub by-number : answerBy f count mpidrs .number ≡ f .number
+  pub by-number : answerBy f count hash .number ≡ f .number
   by-number = go (eqb (f .number) 0) refl
     where
-      go : (t : Bool) → eqb (f .number) 0 ≡ t → answerBy f count mpidrs .number ≡ f .number
+      go : (t : Bool) → eqb (f .number) 0 ≡ t → answerBy f count hash .number ≡ f .number
       go true e = rw e (sym (eqb-true (f .number) 0 e))
       go false e = rw e
 
@@ -45,7 +46,7 @@ module _ (f : Fault) (count : ℕ) (mpidrs : List ℕ) where
       (f .number ≡ 0 → ⊥) →
       Told Rule (f .number) (f .place) →
       ((v : ℕ) → Second b (f .number) (f .place) v ↔ (v ≡ f .second)) →
-      Refused b Rule before (answerBy f count mpidrs) (rowsBy f s before)
+      Refused b Rule before (answerBy f count hash) (rowsBy f s before)
   by-refusal s before ne first second =
       rw (ne-eqb (f .number) 0 ne)
       (record {
@@ -60,13 +61,13 @@ module _ (f : Fault) (count : ℕ) (mpidrs : List ℕ) where
   pub by-else :
       (g : Fault) (s : Source) (before : List ℕ) →
       (f .number ≡ 0 → g .number ≡ 0) →
-      (answerBy (orElse f g) count mpidrs ≡ answerBy f count mpidrs) × (rowsBy (orElse f g) s before ≡ rowsBy f s before)
+      (answerBy (orElse f g) count hash ≡ answerBy f count hash) × (rowsBy (orElse f g) s before ≡ rowsBy f s before)
   by-else g s before clear = go (eqb (f .number) 0) refl
     where
       go :
           (t : Bool) →
           eqb (f .number) 0 ≡ t →
-          (answerBy (orElse f g) count mpidrs ≡ answerBy f count mpidrs) × (rowsBy (orElse f g) s before ≡ rowsBy f s before)
+          (answerBy (orElse f g) count hash ≡ answerBy f count hash) × (rowsBy (orElse f g) s before ≡ rowsBy f s before)
       go true e =
           let z = eqb-true (f .number) 0 e in
           rw (or-second f g z, eq-eqb (g .number) 0 (clear z), e) (refl, refl)

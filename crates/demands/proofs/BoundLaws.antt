@@ -1,7 +1,6 @@
 -- No answer's place is above 4,096, no second place is more than a word, and no count above 256. Assumes nothing.
 use mathlib.Core.Path.{_≡_, refl}
 use mathlib.Core.Bool.{Bool, true, false}
-use mathlib.Core.List.{List}
 use Prim.Native.Nat.{ℕ, _≤_}
 use native.Mathlib.Nat.{le-trans}
 use native.Mathlib.Omega.{arith}
@@ -13,17 +12,18 @@ use Rattle.laws.proofs.FaultLaws.{place-le}
 use Rattle.laws.proofs.OrElseLaws.{or-clear}
 use Rattle.laws.proofs.RuleStageLaws.{told-place, else-place}
 use Rattle.slot_table.specs.answers.Table.{entriesFault}
-use Rattle.affinity.specs.answers.Hash.{hashOf}
+use Rattle.affinity.specs.declared.Hash.{Hash}
 use Rattle.tables.specs.facts.Board.{Board, nodeCount}
 use Rattle.laws.specs.facts.Limits.{maxProperties, noProperty}
 use Rattle.wellformed.specs.answers.Check.{tableFault}
 use Rattle.wellformed.proofs.RuleLaws.{table-place, table-sound}
 use Rattle.wellformed.proofs.WellFormedLaws.{wf-nodes}
-use Rattle.cpus.specs.answers.Check.{cpuCount, cpuList, mpidrList, cpusFault, phandlesFault}
+use Rattle.cpus.specs.answers.Check.{cpuCount, cpuList, cpusFault, phandlesFault}
 use Rattle.cpus.proofs.CpuTells.{cpus-place, phandles-place}
 use Rattle.cpumap.specs.answers.Find.{mapOf, mapFault, noMapFault, secondMapFault}
 use Rattle.leaves.specs.answers.Scan.{leavesFault, treeOf}
 use Rattle.leaves.proofs.TreeTells.{leaves-place}
+use Rattle.rows.specs.answers.Slots.{boardHash}
 use Rattle.demands.specs.facts.Words.{Words}
 use Rattle.demands.specs.answers.Survey.{surveyFault}
 use Rattle.demands.specs.declared.BoardAnswer.{BoardAnswer}
@@ -34,9 +34,9 @@ use Rattle.demands.proofs.SecondBoard.{second-word}
 use Rattle.demands.proofs.SecondSlots.{slots-word}
 
 -- an answer by what is told
-module _ (f : Fault) (count : ℕ) (mpidrs : List ℕ) where
+module _ (f : Fault) (count : ℕ) (hash : Hash) where
   abbrev answer : BoardAnswer
-  answer = answerBy f count mpidrs
+  answer = answerBy f count hash
 
   by-place : f .place ≤ maxProperties → answer .place ≤ maxProperties
   by-place le = go (eqb (f .number) 0) refl
@@ -89,11 +89,11 @@ module _ (b : Board) (room : ℕ) where
 
   pub answer-place : answerOf b room .place ≤ maxProperties
   unfolding answerOf
-  answer-place = by-place (boardFault b room) (cpuCount b) (mpidrList b) fault-place
+  answer-place = by-place (boardFault b room) (cpuCount b) (boardHash b) fault-place
 
   pub answer-second : answerOf b room .second ≤ noProperty
   unfolding answerOf
-  answer-second = by-second (boardFault b room) (cpuCount b) (mpidrList b) (second-word b room)
+  answer-second = by-second (boardFault b room) (cpuCount b) (boardHash b) (second-word b room)
 
   -- nothing is told, so nothing is told of the cpu nodes
   cpus-few : boardFault b room .number ≡ 0 → cpuCount b ≤ 256
@@ -104,7 +104,7 @@ module _ (b : Board) (room : ℕ) where
 
   pub answer-count : answerOf b room .count ≤ 256
   unfolding answerOf
-  answer-count = by-count (boardFault b room) (cpuCount b) (mpidrList b) cpus-few
+  answer-count = by-count (boardFault b room) (cpuCount b) (boardHash b) cpus-few
 
 -- .. and with a table of slots
 module _ (b : Board) (room entries : ℕ) where
@@ -112,19 +112,19 @@ module _ (b : Board) (room entries : ℕ) where
   unfolding slotsFault
   slots-fault-place =
       else-place (boardFault b room) _ (fault-place b room) λ _.
-      le-trans (told-place (entriesFault (hashOf (mpidrList b) .bits) entries) 0) (omega arith)
+      le-trans (told-place (entriesFault (boardHash b .bits) entries) 0) (omega arith)
 
   pub slots-place : slotsAnswer b room entries .place ≤ maxProperties
   unfolding slotsAnswer
-  slots-place = by-place (slotsFault b room entries) (cpuCount b) (mpidrList b) slots-fault-place
+  slots-place = by-place (slotsFault b room entries) (cpuCount b) (boardHash b) slots-fault-place
 
   pub slots-second-word : slotsAnswer b room entries .second ≤ noProperty
   unfolding slotsAnswer
-  slots-second-word = by-second (slotsFault b room entries) (cpuCount b) (mpidrList b) (slots-word b room entries)
+  slots-second-word = by-second (slotsFault b room entries) (cpuCount b) (boardHash b) (slots-word b room entries)
 
   pub slots-count : slotsAnswer b room entries .count ≤ 256
   unfolding slotsAnswer slotsFault
-  slots-count = by-count (slotsFault b room entries) (cpuCount b) (mpidrList b) (λ z. cpus-few b room (or-clear (boardFault b room) _ z .0))
+  slots-count = by-count (slotsFault b room entries) (cpuCount b) (boardHash b) (λ z. cpus-few b room (or-clear (boardFault b room) _ z .0))
 
 -- so the numbers of both reading calls are words
 pub board-words : (b : Board) (room : ℕ) → Words (answerOf b room)

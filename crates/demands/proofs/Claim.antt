@@ -12,11 +12,10 @@ use Rattle.laws.specs.facts.Limits.{noProperty}
 use Rattle.laws.proofs.SearchLaws.{lt-or-le}
 use Rattle.laws.proofs.RuleStageLaws.{tells-none}
 use Rattle.layout.specs.facts.Row.{rowSize, slotAt}
-use Rattle.affinity.specs.answers.Hash.{hashOf}
-use Rattle.tables.specs.facts.Board.{Board, WordSized, nodeCount}
+use Rattle.tables.specs.facts.Board.{Board, WordSized, HasMpidrs, nodeCount}
 use Rattle.wellformed.specs.facts.Rules.{WellFormed}
 use Rattle.cpus.specs.facts.Rules.{SoundCpus, SoundPhandles}
-use Rattle.cpus.specs.answers.Check.{cpuCount, cpuList, mpidrList}
+use Rattle.cpus.specs.answers.Check.{cpuCount, cpuList}
 use Rattle.cpus.proofs.CpuMeans.{cpu-listing, cpu-count}
 use Rattle.cpus.proofs.RuleMeans.{nine}
 use Rattle.cpumap.specs.facts.Map.{Map}
@@ -25,12 +24,14 @@ use Rattle.topology.specs.facts.Rules.{SoundTopology}
 use Rattle.leaves.specs.facts.Rules.{SoundLeaves}
 use Rattle.cpumap.specs.answers.Find.{mapOf}
 use Rattle.cpumap.proofs.MapMeans.{map-of, no-map}
+use Rattle.rows.specs.answers.Slots.{boardHash}
 use Rattle.rows.specs.facts.Fits.{Fits}
 use Rattle.rows.specs.answers.Write.{rowsBelow, written, sourceOf}
-use Rattle.rows.proofs.SourceMeans.{leafCount, LeafFacts, leaf-facts, leaf-count, board-hash}
+use Rattle.rows.proofs.SourceMeans.{leafCount, LeafFacts, leaf-facts, leaf-count}
+use Rattle.rows.proofs.HashMeans.{board-hash}
 use Rattle.rows.proofs.FitMeans.{rows-fit}
 use Rattle.rows.proofs.FitUnique.{fits-unique}
-use Rattle.rows.proofs.SlotMeans.{slots-distinct-rows, slots-bounded}
+use Rattle.rows.proofs.SlotMeans.{slots-distinct-rows, slots-bounded, slots-gaps}
 use Rattle.rows.proofs.WrittenLaws.{written-front, written-rest, written-length, written-row}
 use Rattle.demands.specs.declared.BoardAnswer.{BoardAnswer}
 use Rattle.demands.specs.facts.Rules.{Breaks, Told, MapBroken, Room}
@@ -96,13 +97,14 @@ module _
     slot-at : (k : ℕ) → k < cpuCount b → slotAt after k ≡ slotAt (rowsBelow (sourceOf b) (leafCount b)) k
     slot-at k lt = rw (written-row (sourceOf b) before has-room k (rw same lt))
 
-    distinct : (j k : ℕ) → j < cpuCount b → k < cpuCount b → slotAt after j ≡ slotAt after k → j ≡ k
-    distinct j k lj lk e = slots-distinct-rows sized well sound leaves j k (rw same lj) (rw same lk) (sym (slot-at j lj) ∙ e ∙ slot-at k lk)
+    distinct : HasMpidrs b → (j k : ℕ) → j < cpuCount b → k < cpuCount b → slotAt after j ≡ slotAt after k → j ≡ k
+    distinct has j k lj lk e =
+        slots-distinct-rows leaves sized well sound has j k (rw same lj) (rw same lk) (sym (slot-at j lj) ∙ e ∙ slot-at k lk)
 
     rest : drop (rowSize * cpuCount b) after ≡ drop (rowSize * cpuCount b) before
     rest = rw (← same) (written-rest (sourceOf b) before has-room)
 
-    rows-accepted : Accepted b before (record { number = 0; place = 0; second = noProperty; count = cpuCount b; hash = hashOf (mpidrList b) }) after
+    rows-accepted : Accepted b before (record { number = 0; place = 0; second = noProperty; count = cpuCount b; hash = boardHash b }) after
     rows-accepted =
         record {
           place = refl;
@@ -114,7 +116,8 @@ module _
           count = (cpuList b, cpu-listing well, cpu-count b);
           hash = board-hash sized well sound;
           distinct = distinct;
-          bounded = λ k lt. rw (slot-at k lt) (slots-bounded sized well sound leaves k (rw same lt));
+          bounded = λ has k lt. rw (slot-at k lt) (slots-bounded leaves sized well sound has k (rw same lt));
+          gaps = λ e k lt. slot-at k lt ∙ slots-gaps leaves e k (rw same lt);
         }
 
 module _ {b : Board} (sized : WordSized b) (before : List ℕ) where
@@ -133,7 +136,7 @@ module _ {b : Board} (sized : WordSized b) (before : List ℕ) where
   refusal : (number ≡ 0 → ⊥) → Refused b (Breaks b (length before)) before answer buffer
   unfolding answerOf rowsAfter
   refusal ne =
-      by-refusal (boardFault b (length before)) (cpuCount b) (mpidrList b) (sourceOf b) before ne (first-told ne) (second-is b (length before))
+      by-refusal (boardFault b (length before)) (cpuCount b) (boardHash b) (sourceOf b) before ne (first-told ne) (second-is b (length before))
 
   pub none : number ≡ 0 → (n p : ℕ) → Breaks b (length before) n p → ⊥
   none = tells-none (λ n p. breaks-staged) (board-tells sized (length before))
@@ -149,7 +152,7 @@ module _ {b : Board} (sized : WordSized b) (before : List ℕ) where
   -- the answer's number is that of the fault
   answer-number : answer .number ≡ number
   unfolding answerOf
-  answer-number = by-number (boardFault b (length before)) (cpuCount b) (mpidrList b)
+  answer-number = by-number (boardFault b (length before)) (cpuCount b) (boardHash b)
 
   -- a map rule is broken where some rule is, none of them being one of the other layers
   map-broken : WellFormed b → SoundCpus b → Room b (length before) → (n p : ℕ) → Breaks b (length before) n p → MapBroken b

@@ -39,7 +39,7 @@ module _ (b : Board) (before : List ℕ) (x y : BoardAnswer) (after other : List
       let second = g .second (x .second) .0 (rw (← told .0, ← told .1) (h .second (x .second) .1 refl)) in
       (parts (told .0) (told .1) second (h .count ∙ sym (g .count)) (h .hash ∙ sym (g .hash)), h .buffer ∙ sym (g .buffer))
 
-  -- both accept: the cpu records, their MPIDRs and the rows that fit are one each
+  -- both accept: the cpu records, the hash and the rows that fit are one each
   both-accept : WellFormed b → x .number ≡ 0 → y .number ≡ 0 → Accepted b before x after → Accepted b before y other → Same
   both-accept well zx zy h g =
       let cpus = listing-unique (h .count .0) (g .count .0) (h .count .1) (g .count .1) in

@@ -14,18 +14,17 @@ use Rattle.laws.specs.answers.Fault.{told}
 use Rattle.laws.proofs.FaultLaws.{or-first, or-second}
 use Rattle.laws.proofs.OrElseLaws.{told-number}
 use Rattle.slot_table.specs.answers.Table.{entriesFault}
-use Rattle.affinity.specs.answers.Hash.{hashOf}
 use Rattle.tables.specs.facts.Board.{Board}
 use Rattle.tables.specs.facts.Second.{Concerns, Second}
 use Rattle.tables.proofs.SecondLaws.{spoken, HasSecond, no-concern, told-second, second-silent}
-use Rattle.cpus.specs.answers.Check.{mpidrList}
+use Rattle.rows.specs.answers.Slots.{boardHash}
 use Rattle.demands.specs.answers.Answer.{boardFault}
 use Rattle.demands.specs.answers.Slots.{slotsFault}
 use Rattle.demands.proofs.SecondBoard.{second-is, second-word}
 
 module _ (b : Board) (room entries : ℕ) where
   abbrev bits : ℕ
-  bits = hashOf (mpidrList b) .bits
+  bits = boardHash b .bits
 
   abbrev last : Fault
   last = told (entriesFault bits entries) 0

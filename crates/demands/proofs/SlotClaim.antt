@@ -1,24 +1,27 @@
 -- The claim about the definitions that the contract of the call with a table cites. Assumes nothing.
-use mathlib.Core.Path.{_≡_, sym, _∙_}
+use mathlib.Core.Path.{_≡_, sym, subst, _∙_}
 use mathlib.Core.Logic.{⊎-elim}
-use mathlib.Core.List.{List}
+use mathlib.Core.List.{List, _∷_}
 use Prim.Native.Nat.{ℕ, _*_, _^_, _≤_}
 use native.Mathlib.Omega.{arith}
-use lib.ListN.{length}
+use lib.ListN.{length, drop}
 use borrow.Author.Tests.{eq-eqb, ne-eqb}
 use Rattle.laws.specs.declared.Fault.{Fault}
 use Rattle.laws.specs.answers.Fault.{told}
 use Rattle.laws.proofs.SearchLaws.{lt-or-le}
 use Rattle.laws.proofs.OrElseLaws.{told-number}
 use Rattle.laws.proofs.RuleStageLaws.{tells-none}
-use Rattle.layout.specs.facts.Row.{rowSize, slotAt}
-use Rattle.slot_table.specs.facts.SlotTable.{SlotTable, Slotted}
+use Rattle.layout.specs.facts.Row.{rowSize, gap, slotAt}
+use Rattle.slot_table.specs.facts.SlotTable.{SlotTable, Found}
 use Rattle.slot_table.specs.answers.Table.{entriesFault}
 use Rattle.slot_table.proofs.FaultLaws.{entries-sound}
-use Rattle.slot_table.proofs.TableLaws.{filled-table}
-use Rattle.affinity.specs.answers.Hash.{hashOf}
-use Rattle.tables.specs.facts.Board.{Board, WordSized}
-use Rattle.cpus.specs.answers.Check.{cpuCount, mpidrList}
+use Rattle.slot_table.proofs.TableLaws.{filled-table, table-found, one-gap}
+use Rattle.affinity.specs.declared.Hash.{Hash}
+use Rattle.tables.specs.facts.Board.{Board, WordSized, riscv, HasMpidrs}
+use Rattle.cpus.specs.answers.Check.{cpuCount}
+use Rattle.rows.specs.facts.BoardHash.{BoardHash}
+use Rattle.rows.specs.answers.Slots.{boardHash}
+use Rattle.rows.proofs.FitUnique.{board-hash-unique}
 use Rattle.rows.specs.answers.Write.{sourceOf}
 use Rattle.demands.specs.declared.BoardAnswer.{BoardAnswer}
 use Rattle.demands.specs.facts.Rules.{Breaks}
@@ -51,7 +54,7 @@ module _ {b : Board} (sized : WordSized b) (rows table : List ℕ) where
 
   answer-number : answer .number ≡ fault .number
   unfolding slotsAnswer
-  answer-number = by-number fault (cpuCount b) (mpidrList b)
+  answer-number = by-number fault (cpuCount b) (boardHash b)
 
   unbroken : answer .number ≡ 0 → (n p : ℕ) → SlotBreaks b room entries n p → ⊥
   unbroken z = tells-none slot-breaks-staged (slots-tells sized room entries) (sym answer-number ∙ z)
@@ -60,22 +63,22 @@ module _ {b : Board} (sized : WordSized b) (rows table : List ℕ) where
   unfolding slotsAnswer slotsRows
   refusal some =
       let ne : fault .number ≡ 0 → ⊥ = λ z. some (answer-number ∙ z) in
-      by-refusal fault (cpuCount b) (mpidrList b) (sourceOf b) rows ne
+      by-refusal fault (cpuCount b) (boardHash b) (sourceOf b) rows ne
       (told-first (omega arith) slot-breaks-staged (slots-tells sized room entries) ne)
       (slots-second b room entries)
 
   -- neither 38 nor 39 is broken
   module _ (free : (n p : ℕ) → SlotTableBroken b entries n p → ⊥) where
-    clear : boardFault b room .number ≡ 0 → told (entriesFault (hashOf (mpidrList b) .bits) entries) 0 .number ≡ 0
+    clear : boardFault b room .number ≡ 0 → told (entriesFault (boardHash b .bits) entries) 0 .number ≡ 0
     clear z =
         let kept = none sized rows z in
-        told-number (entriesFault (hashOf (mpidrList b) .bits) entries) 0
-        ∙ entries-sound (hashOf (mpidrList b) .bits) entries
+        told-number (entriesFault (boardHash b .bits) entries) 0
+        ∙ entries-sound (boardHash b .bits) entries
         (λ n p r. free n p (slot-rule sized (λ m q s. kept m q (Breaks.tables s)) (λ m q s. kept m q (Breaks.cpus s)) r))
 
     same : (answer ≡ answerOf b room) × (rowsThen ≡ rowsAfter b rows)
     unfolding slotsFault slotsAnswer slotsRows answerOf rowsAfter
-    same = by-else (boardFault b room) (cpuCount b) (mpidrList b) _ (sourceOf b) rows clear
+    same = by-else (boardFault b room) (cpuCount b) (boardHash b) _ (sourceOf b) rows clear
 
     as-without : Demands b rows answer rowsThen
     as-without = rw (same .0, same .1) (demands sized rows)
@@ -96,13 +99,8 @@ module _ {b : Board} (sized : WordSized b) (rows table : List ℕ) where
         (λ le. rw (reading .size, cpus .2) le)
         (lt-or-le room (rowSize * length (cpus .0)))
 
-    slotted : Slotted (slotAt rowsThen) (answer .count) (2 ^ (answer .hash .bits))
-    slotted =
-        record {
-          distinct = reading .distinct;
-          bounded = reading .bounded;
-          few = omega (arith, rw (← (same free .0)) at (answer-count b room));
-        }
+    few : answer .count ≤ gap
+    few = omega (arith, rw (← (same free .0)) at (answer-count b room))
 
     tabled : SlotTable (slotAt rowsThen) (answer .count) (2 ^ (answer .hash .bits)) table (slotsTable b rows table)
     unfolding slotsTable
@@ -110,7 +108,19 @@ module _ {b : Board} (sized : WordSized b) (rows table : List ℕ) where
         rw (eq-eqb (answer .number) 0 z)
         (filled-table rowsThen (answer .count) whole (answer .hash .bits) table
         (λ n p r. free n p (SlotTableBroken.slots (answer .hash) (reading .hash) r))
-        slotted)
+        few)
+
+    -- MPIDRs have slots of their own
+    found : HasMpidrs b → Found (slotAt rowsThen) (answer .count) (2 ^ (answer .hash .bits)) (slotsTable b rows table)
+    found has = table-found tabled (record { distinct = reading .distinct has; bounded = reading .bounded has })
+
+    -- hart ids have none, and the hash no bits
+    no-slots : b .width ≡ riscv → slotsTable b rows table ≡ gap ∷ drop 1 table
+    no-slots e =
+        let hash = board-hash-unique (λ n p r. unbroken z n p (SlotBreaks.reading (Breaks.tables r))) (reading .hash) (BoardHash.ofHarts e) in
+        one-gap
+        (subst (λ (h : Hash). SlotTable (slotAt rowsThen) (answer .count) (2 ^ (h .bits)) table (slotsTable b rows table)) hash tabled)
+        (reading .gaps e)
 
   untouched : (answer .number ≡ 0 → ⊥) → slotsTable b rows table ≡ table
   unfolding slotsTable
@@ -124,4 +134,6 @@ module _ {b : Board} (sized : WordSized b) (rows table : List ℕ) where
         sound = unbroken;
         as-without = as-without;
         tabled = tabled;
+        found = found;
+        no-slots = no-slots;
       }

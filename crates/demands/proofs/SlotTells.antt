@@ -13,13 +13,12 @@ use Rattle.laws.proofs.VerdictLaws.{once-tells}
 use Rattle.slot_table.specs.facts.SlotTable.{SlotTableRule}
 use Rattle.slot_table.specs.answers.Table.{entriesFault}
 use Rattle.slot_table.proofs.FaultLaws.{bitsFault, spaceFault, bits-told, space-told}
-use Rattle.affinity.specs.answers.Hash.{hashOf}
 use Rattle.tables.specs.facts.Board.{Board, WordSized}
 use Rattle.wellformed.specs.facts.Order.{stages, stage}
 use Rattle.wellformed.specs.facts.Rules.{WellFormed}
 use Rattle.cpus.specs.facts.Rules.{SoundCpus}
-use Rattle.cpus.specs.answers.Check.{mpidrList}
-use Rattle.rows.proofs.SourceMeans.{board-hash}
+use Rattle.rows.specs.answers.Slots.{boardHash}
+use Rattle.rows.proofs.HashMeans.{board-hash}
 use Rattle.rows.proofs.FitUnique.{board-hash-unique}
 use Rattle.demands.specs.facts.Rules.{Breaks}
 use Rattle.demands.specs.facts.Slots.{SlotTableBroken, SlotBreaks}
@@ -54,10 +53,10 @@ module _ (bits entries : ℕ) where
 
 -- the rules of a table by the bits of the board's hash
 module _ {b : Board} (sized : WordSized b) (well : WellFormed b) (sound : SoundCpus b) {entries n p : ℕ} where
-  pub slot-rule : SlotTableRule (hashOf (mpidrList b) .bits) entries n p → SlotTableBroken b entries n p
-  slot-rule = SlotTableBroken.slots (hashOf (mpidrList b)) (board-hash sized well sound)
+  pub slot-rule : SlotTableRule (boardHash b .bits) entries n p → SlotTableBroken b entries n p
+  slot-rule = SlotTableBroken.slots (boardHash b) (board-hash sized well sound)
 
-  table-rule : SlotTableBroken b entries n p → SlotTableRule (hashOf (mpidrList b) .bits) entries n p
+  table-rule : SlotTableBroken b entries n p → SlotTableRule (boardHash b .bits) entries n p
   table-rule (SlotTableBroken.slots h is r) = rw (← (board-hash-unique well is (board-hash sized well sound))) r
 
 slot-staged : {b : Board} {entries n p : ℕ} → SlotTableBroken b entries n p → (stage 38 ≤ stage n) × (stage n < length stages)
@@ -85,4 +84,4 @@ slots-tells {b} sized room entries =
     (split-tells stage (stage 38) (omega arith) (omega arith) (board-tells sized room) λ none.
     let well : WellFormed b = λ n p r. let s = Breaks.tables r in none n p (s, omega arith, breaks-staged s) in
     let sound : SoundCpus b = λ n p r. let s = Breaks.cpus r in none n p (s, omega arith, breaks-staged s) in
-    tells-as (λ n p. slot-rule sized well sound) (λ n p. table-rule sized well sound) (entries-tells (hashOf (mpidrList b) .bits) entries))
+    tells-as (λ n p. slot-rule sized well sound) (λ n p. table-rule sized well sound) (entries-tells (boardHash b .bits) entries))

@@ -1,13 +1,15 @@
 -- The claim about the call with a table leaves one answer, one row buffer and one table. Assumes nothing.
 use mathlib.Core.Path.{_≡_, refl, sym, _∙_}
 use mathlib.Core.Bool.{Bool, true, false}
+use mathlib.Core.Logic.{⊎-elim}
 use mathlib.Core.List.{List}
 use Prim.Native.Nat.{ℕ}
 use lib.Dec.{eqb}
 use lib.ListN.{length}
 use borrow.Author.Tests.{eqb-true, eqb-false}
 use Rattle.slot_table.proofs.UniqueLaws.{slot-table-unique}
-use Rattle.tables.specs.facts.Board.{Board}
+use Rattle.laws.proofs.DecideLaws.{decided, eq-decides}
+use Rattle.tables.specs.facts.Board.{Board, riscv, HasMpidrs}
 use Rattle.demands.specs.declared.BoardAnswer.{BoardAnswer}
 use Rattle.demands.specs.facts.Slots.{SlotTableBroken, SlotBreaks, SlotTableDemands}
 use Rattle.demands.proofs.DemandsUnique.{both-refuse, demands-unique}
@@ -33,7 +35,10 @@ module _ {b : Board} {rows table : List ℕ} {x y : BoardAnswer} {rx ry tx ty : 
   both-accept h g zx zy =
       let free : (n p : ℕ) → SlotTableBroken b (length table) n p → ⊥ = λ n p r. h .sound zx n p (SlotBreaks.slots r) in
       let same = demands-unique rows (h .as-without free) (g .as-without free) in
-      (same .0, same .1, slot-table-unique (rw (same .0, same .1) at (h .tabled zx)) (g .tabled zy))
+      let of-mpidrs : HasMpidrs b → tx ≡ ty = λ has.
+      slot-table-unique (rw (same .0, same .1) at (h .tabled zx)) (rw (same .0, same .1) at (h .found zx has)) (g .tabled zy) (g .found zy has) in
+      let of-harts : b .width ≡ riscv → tx ≡ ty = λ e. h .no-slots zx e ∙ sym (g .no-slots zy e) in
+      (same .0, same .1, ⊎-elim of-harts of-mpidrs (decided (eq-decides (b .width) riscv)))
 
 pub slot-demands-unique :
     {b : Board} {rows table : List ℕ} {x y : BoardAnswer} {rx ry tx ty : List ℕ} →

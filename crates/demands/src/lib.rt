@@ -4,7 +4,7 @@ use laws::Fault;
 ghost use mathlib.Core.Path.{_≡_};
 ghost use Rattle.demands.specs.answers.Answer.{refusedWith};
 
-// Number 0 and place 0, with the count of rows and the hash of the MPIDRs; or a refusal, in which these are 0. The second place is the record
+// Number 0 and place 0, with the count of rows and the board's hash; or a refusal, in which these are 0. The second place is the record
 // of the property that a refusal speaks of, or NO_PROPERTY.
 pub struct BoardAnswer {
     pub number: u32,

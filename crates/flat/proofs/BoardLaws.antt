@@ -29,7 +29,7 @@ module _ (blob : List ℕ) (cpus : Nodes) (small : length blob ≤ maxBlob) (fou
   order = tree-order (cpus-within blob found .0)
 
   left : {n p : ℕ} → TableRule (boardOf width blob cpus) n p → LeftToTell (boardOf width blob cpus) n p
-  left (TableRule.boardWidth a b) = LeftToTell.boardWidth a b
+  left (TableRule.boardWidth none) = LeftToTell.boardWidth none
   left (TableRule.nodeTablePart part) = absurd (part (omega (arith, long)))
   left (TableRule.nodeTableEmpty none) = absurd (omega (arith, order .some))
   left (TableRule.nodeTableMany many) = LeftToTell.nodeTableMany many

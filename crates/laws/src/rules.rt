@@ -1,6 +1,6 @@
 // The numbers of the rules.
 
-// The width is neither 32 nor 64.
+// The width is no board number.
 pub const BOARD_WIDTH: u32 = 1;
 
 // The node words are not 1 to 1,024 whole records.

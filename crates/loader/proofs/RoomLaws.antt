@@ -14,7 +14,8 @@ use Rattle.laws.proofs.OrElseLaws.{or-clear}
 use Rattle.laws.proofs.SearchLaws.{lt-or-le}
 use Rattle.layout.specs.facts.Row.{rowSize}
 use Rattle.tables.specs.facts.Board.{Board}
-use Rattle.cpus.specs.answers.Check.{cpuCount, mpidrList}
+use Rattle.cpus.specs.answers.Check.{cpuCount}
+use Rattle.rows.specs.answers.Slots.{boardHash}
 use Rattle.demands.specs.answers.Survey.{surveyFault}
 use Rattle.demands.specs.answers.Answer.{roomFault, boardFault, answerBy, answerOf}
 use Rattle.board.proofs.SurveyLaws.{survey-few}
@@ -42,7 +43,7 @@ module _ (b : Board) (room most : ℕ) (enough : rowSize * maxCpus ≤ most) whe
 
   pub same-answer : answerOf b (min room most) ≡ answerOf b room
   unfolding answerOf
-  same-answer = ap (λ (f : Fault). answerBy f (cpuCount b) (mpidrList b)) same-fault
+  same-answer = ap (λ (f : Fault). answerBy f (cpuCount b) (boardHash b)) same-fault
 
 -- a board of which nothing is told has few cpu records
 pub accepted-few : (b : Board) (room : ℕ) → boardFault b room .number ≡ 0 → cpuCount b ≤ maxCpus

@@ -17,7 +17,8 @@ use Rattle.wire.specs.facts.Bytes.{wordSize, inBytes, wordsIn}
 use Rattle.wire.specs.answers.Put.{withWords}
 use Rattle.wire.proofs.ByteLaws.{in-length, words-length, words-back, words-laid, words-read, with-words}
 use Rattle.tables.specs.facts.Board.{Board, WordSized}
-use Rattle.cpus.specs.answers.Check.{cpuCount, mpidrList}
+use Rattle.cpus.specs.answers.Check.{cpuCount}
+use Rattle.rows.specs.answers.Slots.{boardHash}
 use Rattle.rows.specs.answers.Write.{Source, rowsBelow, written, sourceOf}
 use Rattle.rows.proofs.RowLaws.{rows-length}
 use Rattle.rows.proofs.SourceMeans.{leafCount}
@@ -116,7 +117,7 @@ module _ (b : Board) (bytes : List ℕ) (small : Bytes bytes) where
 
   pub bytes-kept : (answerOf b (room b bytes) .number ≡ 0 → ⊥) → rowBytes b bytes ≡ bytes
   unfolding answerOf
-  bytes-kept ne = bytes-same (λ z. ne (by-number told (cpuCount b) (mpidrList b) ∙ z))
+  bytes-kept ne = bytes-same (λ z. ne (by-number told (cpuCount b) (boardHash b) ∙ z))
 
 -- what the code leaves in the table where the rows are made, and writes as bytes
 module _ {b : Board} (sized : WordSized b) (bytes : List ℕ) (small : Bytes bytes) where

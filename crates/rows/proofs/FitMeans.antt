@@ -1,19 +1,18 @@
 -- The rows written fit the map. Assumes nothing.
-use mathlib.Core.Path.{_≡_, refl, ap}
+use mathlib.Core.Path.{_≡_, refl, subst}
 use Prim.Native.Nat.{ℕ, _/_, _%_, _^_, _<_}
 use native.Mathlib.Omega.{arith}
 use Rattle.layout.specs.answers.Words.{rowWords}
 use Rattle.layout.specs.facts.Row.{rowAt}
 use Rattle.layout.proofs.RowLaws.{row-path}
-use Rattle.affinity.specs.answers.Hash.{hashOf, slotIn}
 use Rattle.tables.specs.facts.Board.{Board, WordSized, nodeCount}
 use Rattle.wellformed.specs.facts.Rules.{WellFormed}
 use Rattle.wellformed.proofs.WellFormedLaws.{wf-nodes}
-use Rattle.cpus.specs.facts.Node.{Reg, mpidr}
+use Rattle.cpus.specs.facts.Node.{Reg, regNumber}
 use Rattle.cpus.specs.facts.Rules.{SoundCpus}
-use Rattle.cpus.specs.answers.Check.{mpidrAt, mpidrList}
-use Rattle.cpus.proofs.PairMeans.{mpidr-parts}
-use Rattle.cpus.proofs.RegMeans.{reg-bounds}
+use Rattle.cpus.specs.answers.Check.{regAt}
+use Rattle.cpus.proofs.PairMeans.{pair-parts}
+use Rattle.cpus.proofs.RegMeans.{reg-lower}
 use Rattle.cpus.proofs.CpuGives.{cpu-reg}
 use Rattle.cpumap.specs.facts.Map.{Map}
 use Rattle.topology.specs.facts.Rules.{SoundTopology}
@@ -22,10 +21,12 @@ use Rattle.leaves.specs.answers.Scan.{leavesOf}
 use Rattle.leaves.proofs.RuleCases.{leaf-inside}
 use Rattle.rows.specs.answers.Leaf.{rowOf}
 use Rattle.rows.specs.answers.Write.{rowsBelow, sourceOf}
-use Rattle.rows.specs.facts.Fits.{RowFits, Fits}
+use Rattle.rows.specs.answers.Slots.{slotBy, slotsOf}
+use Rattle.rows.specs.facts.Fits.{SlotWord, RowFits, Fits}
 use Rattle.rows.proofs.WordMeans.{socket-word, cluster-word, core-word, thread-word}
 use Rattle.rows.proofs.RowLaws.{rows-length, row-at}
-use Rattle.rows.proofs.SourceMeans.{leafCount, leafAt, cpuIn, leafRow, LeafFacts, board-hash, row-number}
+use Rattle.rows.proofs.SourceMeans.{leafCount, leafAt, cpuIn, leafRow, LeafFacts, row-number}
+use Rattle.rows.proofs.HashMeans.{slot-word}
 
 module _
     {b : Board}
@@ -53,25 +54,19 @@ module _
           cluster = λ d lt. rw (row-path (leafRow b leaf cpu) d lt) (cluster-word well sound l d lt);
           core = core-word well sound the-map kept l;
           thread = thread-word well sound l;
-          slot =
-              record {
-                hash = hashOf (mpidrList b);
-                is-hash = board-hash sized well sound;
-                slot = ap (slotIn (mpidrList b)) whole;
-              };
+          slot = subst (λ (m : ℕ). SlotWord b m (slotBy (slotsOf b) (regAt b cpu))) whole (slot-word sized well sound (regAt b cpu));
         }
       where
         cpu-word : cpu % 2 ^ 32 ≡ cpu
         cpu-word = small cpu (n .is-cpu .child .inside)
 
-        reg : Reg b cpu (mpidrAt b cpu / 2 ^ 32) (mpidrAt b cpu % 2 ^ 32)
+        reg : Reg b cpu (regAt b cpu / 2 ^ 32) (regAt b cpu % 2 ^ 32)
         reg =
             let t = cpu-reg sized well sound (n .is-cpu) in
-            let r = reg-bounds (t .2) in
-            let p = mpidr-parts (t .0) (t .1) (r .0) (r .1) in
+            let p = pair-parts (t .0) (t .1) (reg-lower (t .2)) in
             rw (t .3, p .0, p .1) (t .2)
 
-        whole : mpidrAt b cpu ≡ mpidr (mpidrAt b cpu / 2 ^ 32) (mpidrAt b cpu % 2 ^ 32)
+        whole : regAt b cpu ≡ regNumber (regAt b cpu / 2 ^ 32) (regAt b cpu % 2 ^ 32)
         whole = omega arith
 
     pub rows-fit : LeafFacts b → Fits b (rowsBelow (sourceOf b) (leafCount b))
@@ -80,5 +75,5 @@ module _
         each : (k : ℕ) → k < leafCount b → RowFits b (leafAt b k) (rowAt (rowsBelow (sourceOf b) (leafCount b)) k)
         each k lt =
             let leaf = leaves .listing .only k lt in
-            rw (row-at (sourceOf b) (leafCount b) k lt, row-number sized well sound leaves k lt)
+            rw (row-at (sourceOf b) (leafCount b) k lt, row-number leaves k lt)
             (row-fits (leafAt b k) (cpuIn b (leafAt b k)) leaf (leaves .names (leafAt b k) leaf))

@@ -62,10 +62,16 @@ module _ {b : Board} (well : WellFormed b) where
           p .3 ∙ rw (e .0, e .1) (sym (q .3))
 
   pub board-hash-unique : {x y : Hash} → BoardHash b x → BoardHash b y → x ≡ y
-  board-hash-unique (BoardHash.ofMpidrs l h is) (BoardHash.ofMpidrs k g other) = hash-unique (rw (mpidrs-unique h g) at is) other
+  board-hash-unique (BoardHash.ofMpidrs has l h is) (BoardHash.ofMpidrs _ k g other) = hash-unique (rw (mpidrs-unique h g) at is) other
+  board-hash-unique (BoardHash.ofMpidrs has l h is) (BoardHash.ofHarts e) = absurd (has e)
+  board-hash-unique (BoardHash.ofHarts e) (BoardHash.ofMpidrs has l h is) = absurd (has e)
+  board-hash-unique (BoardHash.ofHarts e) (BoardHash.ofHarts _) = refl
 
   slot-word-unique : {m x y : ℕ} → SlotWord b m x → SlotWord b m y → x ≡ y
-  slot-word-unique {m} h g = h .slot ∙ ap (λ (x : Hash). slotOf x m) (board-hash-unique (h .is-hash) (g .is-hash)) ∙ sym (g .slot)
+  slot-word-unique {m} (SlotWord.slotted has h is) (SlotWord.slotted _ g other) = ap (λ (x : Hash). slotOf x m) (board-hash-unique is other)
+  slot-word-unique (SlotWord.slotted has h is) (SlotWord.noSlot e) = absurd (has e)
+  slot-word-unique (SlotWord.noSlot e) (SlotWord.slotted has h is) = absurd (has e)
+  slot-word-unique (SlotWord.noSlot e) (SlotWord.noSlot _) = refl
 
 module _
     {b : Board}

@@ -6,5 +6,6 @@ pub mod RowLaws
 pub mod PositionLaws
 pub mod WrittenLaws
 pub mod SourceMeans
+pub mod HashMeans
 pub mod FitMeans
 pub mod SlotMeans

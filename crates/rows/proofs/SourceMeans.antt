@@ -2,23 +2,15 @@
 use mathlib.Core.Path.{_≡_, sym, _∙_}
 use mathlib.Core.List.{map}
 use Prim.Native.Nat.{ℕ, _<_}
-use lib.ListN.{length, getD, length-map}
+use lib.ListN.{length, getD}
 use Rattle.laws.specs.facts.Listing.{Listing}
 use Rattle.laws.proofs.IndexLaws.{getD-map-lt}
 use Rattle.layout.specs.declared.Row.{Row}
-use Rattle.affinity.specs.answers.Mask.{maskOf}
-use Rattle.affinity.specs.answers.Hash.{hashOf, slotIn}
-use Rattle.affinity.specs.steps.List.{AllAffine}
-use Rattle.affinity.specs.facts.Hash.{IsHash}
-use Rattle.affinity.proofs.SlotLaws.{slot-guarded}
-use Rattle.affinity.proofs.HashMeans.{hash-is}
 use Rattle.tables.specs.facts.Board.{Board, WordSized}
 use Rattle.wellformed.specs.facts.Rules.{WellFormed}
 use Rattle.cpus.specs.facts.Rules.{SoundCpus, SoundPhandles}
-use Rattle.cpus.specs.answers.Check.{cpuCount, cpuList, mpidrAt, mpidrList}
-use Rattle.cpus.proofs.CpuMeans.{cpu-listing, cpu-count}
-use Rattle.cpus.proofs.RegMeans.{reg-affine}
-use Rattle.cpus.proofs.CpuGives.{cpu-reg}
+use Rattle.cpus.specs.answers.Check.{cpuCount, cpuList, regAt, regList}
+use Rattle.cpus.proofs.CpuMeans.{cpu-count}
 use Rattle.cpumap.specs.facts.Map.{Map}
 use Rattle.cpumap.specs.answers.Find.{mapOf}
 use Rattle.topology.specs.facts.Rules.{SoundTopology}
@@ -30,7 +22,7 @@ use Rattle.leaves.proofs.PhandleMeans.{cpuAt}
 use Rattle.leaves.proofs.TreeGives.{leaf-listing, leaf-names, leaf-cpu, leaves-apart, same-count}
 use Rattle.rows.specs.answers.Leaf.{rowOf}
 use Rattle.rows.specs.answers.Write.{rowNumber, sourceOf}
-use Rattle.rows.specs.facts.BoardHash.{Mpidrs, BoardHash}
+use Rattle.rows.specs.answers.Slots.{slotBy, slotsOf}
 
 -- the number of rows; the leaf and the cpu record of row k
 abbrev pub leafCount : Board → ℕ
@@ -45,7 +37,7 @@ cpuIn b leaf = cpuAt b (cpuOf (treeOf b) leaf)
 -- the row of a leaf that names a cpu record
 abbrev pub leafRow : Board → ℕ → ℕ → Row
 leafRow b leaf cpu =
-    rowOf (b .nodes) (b .pool) leaf (record { cpu = cpu; mpidr = mpidrAt b cpu; slot = slotIn (mpidrList b) (mpidrAt b cpu) })
+    rowOf (b .nodes) (b .pool) leaf (record { cpu = cpu; reg = regAt b cpu; slot = slotBy (slotsOf b) (regAt b cpu) })
 
 -- the leaves listed: each names a cpu record, no two the same, and there are as many as cpu records
 pub record LeafFacts (b : Board) : Type 0 where
@@ -84,34 +76,11 @@ module _
     pub leaf-count : leafCount b ≡ cpuCount b
     leaf-count = leaf-facts .count ∙ sym (cpu-count b)
 
-module _ {b : Board} (sized : WordSized b) (well : WellFormed b) (sound : SoundCpus b) where
-  mpidrs-of : Mpidrs b (mpidrList b)
-  mpidrs-of =
-      record {
-        cpus = cpuList b;
-        listing = cpu-listing well;
-        size = length-map (cpuList b) (mpidrAt b);
-        each = λ k lt.
-            let t = cpu-reg sized well sound (cpu-listing well .only k lt) in (t .0, t .1, t .2, getD-map-lt (mpidrAt b) (cpuList b) k lt ∙ t .3);
-      }
-
-  -- they have affinity bits alone, so their hash is the computed one
-  pub hash-of : IsHash (mpidrList b) (hashOf (mpidrList b))
-  hash-of = hash-is (mpidrList b) affine
-    where
-      affine : AllAffine (mpidrList b)
-      affine i lt =
-          let in-cpus = rw (length-map (cpuList b) (mpidrAt b)) at lt in
-          let t = cpu-reg sized well sound (cpu-listing well .only i in-cpus) in
-          rw (getD-map-lt (mpidrAt b) (cpuList b) i in-cpus, t .3) (reg-affine (t .2))
-
-  pub board-hash : BoardHash b (hashOf (mpidrList b))
-  board-hash = BoardHash.ofMpidrs (mpidrList b) mpidrs-of hash-of
-
+module _ {b : Board} where
   -- row k is that of leaf k and of the cpu record that it names
   pub row-number : LeafFacts b → (k : ℕ) → k < leafCount b → rowNumber (sourceOf b) k ≡ leafRow b (leafAt b k) (cpuIn b (leafAt b k))
   unfolding rowNumber
-  row-number leaves k lt = rw (index, number, slot-guarded (maskOf (mpidrList b)) (mpidrAt b (cpuIn b (leafAt b k))))
+  row-number leaves k lt = rw (index, number)
     where
       in-cpus : cpuOf (treeOf b) (leafAt b k) < length (cpuList b)
       in-cpus = leaves .index (leafAt b k) (leaves .listing .only k lt)
@@ -119,5 +88,5 @@ module _ {b : Board} (sized : WordSized b) (well : WellFormed b) (sound : SoundC
       index : getD (map (cpuOf (treeOf b)) (leavesOf b)) k 0 ≡ cpuOf (treeOf b) (leafAt b k)
       index = getD-map-lt (cpuOf (treeOf b)) (leavesOf b) k lt
 
-      number : getD (mpidrList b) (cpuOf (treeOf b) (leafAt b k)) 0 ≡ mpidrAt b (cpuIn b (leafAt b k))
-      number = getD-map-lt (mpidrAt b) (cpuList b) (cpuOf (treeOf b) (leafAt b k)) in-cpus
+      number : getD (regList b) (cpuOf (treeOf b) (leafAt b k)) 0 ≡ regAt b (cpuIn b (leafAt b k))
+      number = getD-map-lt (regAt b) (cpuList b) (cpuOf (treeOf b) (leafAt b k)) in-cpus

@@ -1,3 +1,4 @@
 -- What public contracts equate their results with.
 pub mod Leaf
+pub mod Slots
 pub mod Write

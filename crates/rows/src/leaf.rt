@@ -86,8 +86,8 @@ pub fn row_of(nodes: &[u32], pool: &[u8], above: Placed, leaf: usize, named: Nam
     Row {
         leaf: (leaf % 4294967296) as u32,
         cpu: (named.cpu % 4294967296) as u32,
-        upper: (named.mpidr / 4294967296) as u32,
-        lower: (named.mpidr % 4294967296) as u32,
+        upper: (named.reg / 4294967296) as u32,
+        lower: (named.reg % 4294967296) as u32,
         socket: position.socket,
         path,
         core: core_of(nodes, pool, name, above.node),

@@ -1,8 +1,11 @@
 // The rows of a board: one for each leaf, written into a lent buffer.
 mod leaf;
+mod slots;
 mod write;
 
+use affinity::Hash;
 use cpumap::Position;
+pub use slots::slots_for;
 pub use write::write_rows;
 
 // A node record and its position.
@@ -11,9 +14,15 @@ struct Placed {
     pub position: Position,
 }
 
-// A cpu that a leaf names: its record, its MPIDR and its slot.
+// How the slots of a board are made: by a hash, where there are slots; else a row has a gap there.
+pub struct BoardSlots {
+    pub given: bool,
+    pub hash: Hash,
+}
+
+// A cpu that a leaf names: its record, its `reg` and its slot.
 struct NamedCpu {
     pub cpu: usize,
-    pub mpidr: u64,
+    pub reg: u64,
     pub slot: u32,
 }

@@ -1,8 +1,9 @@
 // Writing rows: each into its own words of the lent buffer.
+use crate::BoardSlots;
 use crate::NamedCpu;
 use crate::Placed;
 use crate::leaf::row_of;
-use affinity::Hash;
+use crate::slots::slot_by;
 use cpumap::position_of;
 use layout::ROW_WORDS;
 use layout::put_row;
@@ -36,18 +37,18 @@ fn placed_at(nodes: &[u32], pool: &[u8], p: usize, last: Placed) -> Placed
     }
 }
 
-// The cpu at an index of the cpu records and their MPIDRs, with its slot. What a list does not have is 0.
-fn named_cpu(cpus: &[u16], mpidrs: &[u64], index: usize, hash: Hash) -> NamedCpu
-    ensures { λ r. ⌜ r ≡ namedCpu (now (cpus .entry)) (now (mpidrs .entry)) index hash ⌝ }
+// The cpu at an index of the cpu records and their `reg`s, with its slot. What a list does not have is 0.
+fn named_cpu(cpus: &[u16], regs: &[u64], index: usize, slots: BoardSlots) -> NamedCpu
+    ensures { λ r. ⌜ r ≡ namedCpu (now (cpus .entry)) (now (regs .entry)) index slots ⌝ }
 {
-    let mut mpidr: u64 = 0;
-    if index < mpidrs.len() {
-        mpidr = mpidrs[index];
+    let mut reg: u64 = 0;
+    if index < regs.len() {
+        reg = regs[index];
     }
     NamedCpu {
         cpu: record_at(cpus, index),
-        mpidr,
-        slot: affinity::slot_of(hash, mpidr),
+        reg,
+        slot: slot_by(slots, reg),
     }
 }
 
@@ -57,14 +58,14 @@ pub fn write_rows(
     nodes: &[u32],
     pool: &[u8],
     cpus: &[u16],
-    mpidrs: &[u64],
+    regs: &[u64],
     leaves: &[u16],
     named: &[u16],
-    hash: Hash,
+    slots: BoardSlots,
 )
     ensures { λ _.
-        let s = source (now (nodes .entry)) (now (pool .entry)) (now (cpus .entry)) (now (mpidrs .entry))
-        (now (leaves .entry)) (now (named .entry)) hash in
+        let s = source (now (nodes .entry)) (now (pool .entry)) (now (cpus .entry)) (now (regs .entry))
+        (now (leaves .entry)) (now (named .entry)) slots in
         ⌜ now (rows .exit) ≡ written s (now (rows .entry)) ⌝ }
 {
     let count = leaves.len();
@@ -81,7 +82,7 @@ pub fn write_rows(
         let p = node_word(nodes, leaf, 0);
         above = placed_at(nodes, pool, p, above);
         let index = record_at(named, k);
-        let cpu = named_cpu(cpus, mpidrs, index, hash);
+        let cpu = named_cpu(cpus, regs, index, slots);
         let row = row_of(nodes, pool, above, leaf, cpu);
         let start = ROW_WORDS * k;
         put_row(&mut rows[start..], row);

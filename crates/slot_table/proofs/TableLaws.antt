@@ -1,8 +1,8 @@
 -- Rows entered in a table: its length, what each entry holds, and where each row is found. Assumes nothing.
-use mathlib.Core.Path.{_≡_, refl, sym, ap, _∙_}
+use mathlib.Core.Path.{_≡_, refl, sym, ap, ap₂, _∙_}
 use mathlib.Core.Bool.{Bool, true, false, cond}
 use mathlib.Core.Logic.{_⊎_, inl, inr, ⊎-elim}
-use mathlib.Core.List.{List}
+use mathlib.Core.List.{List, [], _∷_}
 use Prim.Native.Nat.{ℕ, zero, suc, _+_, _*_, _/_, _%_, _^_, _≤_, _<_}
 use native.Mathlib.Nat.{eq-or-lt-of-le, le-of-suc-le-suc}
 use native.Mathlib.Numerals.{add-one}
@@ -15,7 +15,7 @@ use borrow.Author.Tests.{lt-ltb, le-ltb, ltb-true, eq-eqb}
 use Rattle.laws.proofs.BlockLaws.{block-front}
 use Rattle.laws.proofs.DecideLaws.{decided, eq-decides}
 use Rattle.layout.specs.facts.Row.{rowSize, gap, rowSlot, slotAt}
-use Rattle.slot_table.specs.facts.SlotTable.{SlotTableRule, SlotTable, Slotted}
+use Rattle.slot_table.specs.facts.SlotTable.{SlotTableRule, SlotTable, Found, Slotted}
 use Rattle.slot_table.specs.answers.Table.{blank, enteredBelow, filled}
 use Rattle.slot_table.proofs.FaultLaws.{entries-clear, entries-sound}
 
@@ -61,32 +61,30 @@ module _ (slot : ℕ → ℕ) (size : ℕ) (table : List ℕ) where
           (λ ne. rw (getD-set-other (entered n) (slot n) s (n % 2 ^ 32) 0 (λ q. ne (sym q))) h)
           (decided (eq-decides (slot n) s))
 
-  entered-at : (n : ℕ) → size ≤ length table → Slotted slot n size → (k : ℕ) → k < n → getD (entered n) (slot k) 0 ≡ k
+  -- the entry at the slot of a row below n is a row below n
+  entered-row : (n : ℕ) → n ≤ gap → size ≤ length table → (k : ℕ) → k < n → slot k < size → getD (entered n) (slot k) 0 < n
   unfolding enteredBelow
-  entered-at zero room rows k lt = absurd (omega arith)
-  entered-at (suc n) room rows k lt =
-      rw (lt-ltb (slot n) size (rows .bounded n (omega arith)))
-      (⊎-elim here (λ l. there l (entered-at n room less k l)) (eq-or-lt-of-le (le-of-suc-le-suc lt)))
+  entered-row zero few room k lt in-size = absurd (omega arith)
+  entered-row (suc n) few room k lt in-size =
+      ⊎-elim own
+      (λ ne. other ne (ltb (slot n) size) (entered-row n (omega arith) room k (earlier ne) in-size))
+      (decided (eq-decides (slot n) (slot k)))
     where
-      less : Slotted slot n size
-      less =
-          record {
-            distinct = λ i j p q. rows .distinct i j (omega arith) (omega arith);
-            bounded = λ j p. rows .bounded j (omega arith);
-            few = omega (arith, rows .few);
-          }
+      own : slot n ≡ slot k → getD (cond (ltb (slot n) size) (set (entered n) (slot n) (n % 2 ^ 32)) (entered n)) (slot k) 0 < suc n
+      own q =
+          rw (lt-ltb (slot n) size (rw q in-size), q, getD-set-same (entered n) (slot k) (n % 2 ^ 32) 0 (rw (entered-length n) (omega arith)))
+          (omega arith)
 
-      here : k ≡ n → getD (set (entered n) (slot n) (n % 2 ^ 32)) (slot k) 0 ≡ k
-      here e =
-          rw e
-          (getD-set-same (entered n) (slot n) (n % 2 ^ 32) 0 (rw (entered-length n) (omega (arith, rows .bounded n (omega arith))))
-          ∙ omega (arith, rows .few))
+      earlier : (slot n ≡ slot k → ⊥) → k < n
+      earlier ne = ⊎-elim (λ e. absurd (ne (ap slot (sym e)))) (λ l. l) (eq-or-lt-of-le (le-of-suc-le-suc lt))
 
-      there : k < n → getD (entered n) (slot k) 0 ≡ k → getD (set (entered n) (slot n) (n % 2 ^ 32)) (slot k) 0 ≡ k
-      there l h =
-          getD-set-other (entered n) (slot n) (slot k) (n % 2 ^ 32) 0
-          (λ e. let q = rows .distinct k n (omega arith) (omega arith) e in omega arith)
-          ∙ h
+      other :
+          (slot n ≡ slot k → ⊥) →
+          (t : Bool) →
+          getD (entered n) (slot k) 0 < n →
+          getD (cond t (set (entered n) (slot n) (n % 2 ^ 32)) (entered n)) (slot k) 0 < suc n
+      other ne true h = rw (getD-set-other (entered n) (slot n) (slot k) (n % 2 ^ 32) 0 (λ q. ne (sym q))) (omega arith)
+      other ne false h = omega arith
 
 -- the word of a row that holds its slot
 pub slot-word : (rows : List ℕ) (k : ℕ) → getD rows (rowSize * k + 11) 0 ≡ slotAt rows k
@@ -103,7 +101,7 @@ module _ (slot : ℕ → ℕ) (size k : ℕ) (before : List ℕ) {table : List �
   entered-no le = rw (add-one k, le-ltb (slot k) size le) entered-so-far
 
 -- the whole table
-module _ (slot : ℕ → ℕ) (count size : ℕ) (before : List ℕ) (room : size ≤ length before) (rows : Slotted slot count size) where
+module _ (slot : ℕ → ℕ) (count size : ℕ) (before : List ℕ) (room : size ≤ length before) (few : count ≤ gap) where
   abbrev marked : List ℕ
   marked = blank size before
 
@@ -124,10 +122,11 @@ module _ (slot : ℕ → ℕ) (count size : ℕ) (before : List ℕ) (room : siz
   after-length = entered-length slot size marked count ∙ marked-length
 
   entry : (s : ℕ) → s < size → Entry slot size marked count s (getD after s 0)
-  entry s lt = entered-names slot size marked count s (rows .few) (rw marked-length (omega arith))
+  entry s lt = entered-names slot size marked count s few (rw marked-length (omega arith))
 
-  found : (k : ℕ) → k < count → getD after (slot k) 0 ≡ k
-  found = entered-at slot size marked count (rw marked-length room) rows
+  -- a row's own entry is not GAP
+  taken : (k : ℕ) → k < count → slot k < size → getD after (slot k) 0 < count
+  taken = entered-row slot size marked count few (rw marked-length room)
 
   -- the entries behind the table's
   rest : drop size after ≡ drop size before
@@ -139,7 +138,7 @@ module _ (slot : ℕ → ℕ) (count size : ℕ) (before : List ℕ) (room : siz
       later : (i : ℕ) → i < length (drop size after) → getD (drop size after) i 0 ≡ getD (drop size before) i 0
       later i lt =
           getD-drop size after i 0
-          ∙ ⊎-elim (λ e. e) (λ w. absurd (omega (arith, w .2))) (entered-names slot size marked count (size + i) (rows .few) inside)
+          ∙ ⊎-elim (λ e. e) (λ w. absurd (omega (arith, w .2))) (entered-names slot size marked count (size + i) few inside)
           ∙ ap (λ (k : ℕ). getD marked (k + i) 0) (sym (length-replicate {A = ℕ} size gap))
           ∙ getD-append-add (replicate {A = ℕ} size gap) (drop size before) i 0
         where
@@ -149,16 +148,39 @@ module _ (slot : ℕ → ℕ) (count size : ℕ) (before : List ℕ) (room : siz
   pub slot-table : SlotTable slot count size before after
   slot-table =
       record {
-        found = λ k lt. (rows .bounded k lt, found k lt);
         named = λ s lt ne. ⊎-elim (λ e. absurd (ne (e ∙ marked-gap s lt))) (λ w. (w .0, w .1)) (entry s lt);
         gaps = λ s lt. (
-          λ e k l q. omega (arith, sym (found k l) ∙ ap (λ (i : ℕ). getD after i 0) q ∙ e, rows .few),
+          λ e k l q. omega (arith, taken k l (rw q lt), ap (λ (i : ℕ). getD after i 0) q ∙ e, few),
           λ none. ⊎-elim (λ e. e ∙ marked-gap s lt) (λ w. absurd (none (getD after s 0) (w .0) (w .1))) (entry s lt),
         );
         room = rw after-length room;
         rest = rest;
         kept = after-length;
       }
+
+-- rows that a table can tell apart are found in it
+pub table-found :
+    {slot : ℕ → ℕ} {count size : ℕ} {before after : List ℕ} →
+    SlotTable slot count size before after →
+    Slotted slot count size →
+    Found slot count size after
+table-found {slot} {count} {size} {before} {after} h rows k lt =
+    let in-size = rows .bounded k lt in
+    let row = h .named (slot k) in-size (λ e. h .gaps (slot k) in-size .0 e k lt refl) in
+    (in-size, rows .distinct (getD after (slot k) 0) k (row .0) lt (row .1))
+
+-- where no row has a slot, a table of one entry has GAP there
+pub one-gap :
+    {slot : ℕ → ℕ} {count : ℕ} {before after : List ℕ} →
+    SlotTable slot count 1 before after →
+    ((k : ℕ) → k < count → slot k ≡ gap) →
+    after ≡ gap ∷ drop 1 before
+one-gap {slot} {count} {before} {after} h none =
+    split after (h .room) (h .gaps 0 (omega arith) .1 (λ k lt e. omega (arith, none k lt))) (h .rest)
+  where
+    split : (l : List ℕ) → 1 ≤ length l → getD l 0 0 ≡ gap → drop 1 l ≡ drop 1 before → l ≡ gap ∷ drop 1 before
+    split [] le e r = absurd (omega arith)
+    split (x ∷ l) le e r = ap₂ (λ (y : ℕ) (m : List ℕ). y ∷ m) e r
 
 -- rows at the front of a buffer: their table
 module _ (rows : List ℕ) (count : ℕ) (whole : rowSize * count ≤ length rows) where
@@ -174,18 +196,9 @@ module _ (rows : List ℕ) (count : ℕ) (whole : rowSize * count ≤ length row
       ∙ ap (λ (l : List ℕ). slotAt l k) (take-append-drop (rowSize * count) rows)
 
   module _ {size : ℕ} where
-    front-slotted : Slotted (slotAt rows) count size → Slotted (slotAt front) count size
-    front-slotted h =
-        record {
-          distinct = λ j k lj lk e. h .distinct j k lj lk (sym (front-slot j lj) ∙ e ∙ front-slot k lk);
-          bounded = λ k lt. rw (front-slot k lt) (h .bounded k lt);
-          few = h .few;
-        }
-
     rows-table : {before after : List ℕ} → SlotTable (slotAt front) count size before after → SlotTable (slotAt rows) count size before after
     rows-table {before} {after} h =
         record {
-          found = λ k lt. rw (front-slot k lt) at (h .found k lt);
           named = λ s lt ne. let row = h .named s lt ne in (row .0, sym (front-slot _ (row .0)) ∙ row .1);
           gaps = λ s lt. (
             λ e k l q. h .gaps s lt .0 e k l (front-slot k l ∙ q),
@@ -199,11 +212,11 @@ module _ (rows : List ℕ) (count : ℕ) (whole : rowSize * count ≤ length row
   pub filled-table :
       (bits : ℕ) (before : List ℕ) →
       ((n p : ℕ) → SlotTableRule bits (length before) n p → ⊥) →
-      Slotted (slotAt rows) count (2 ^ bits) →
+      count ≤ gap →
       SlotTable (slotAt rows) count (2 ^ bits) before (filled front bits before)
   unfolding filled
-  filled-table bits before none h =
+  filled-table bits before none few =
       let clear = entries-sound bits (length before) none in
       let many : length front / rowSize ≡ count = omega (arith, front-length) in
       rw (eq-eqb _ 0 clear, many)
-      (rows-table (slot-table (slotAt front) count (2 ^ bits) before (entries-clear bits (length before) clear .1) (front-slotted h)))
+      (rows-table (slot-table (slotAt front) count (2 ^ bits) before (entries-clear bits (length before) clear .1) few))

@@ -9,25 +9,29 @@ use lib.Seq.{getD-drop, ext-getD}
 use Rattle.laws.proofs.SearchLaws.{lt-or-le}
 use Rattle.laws.proofs.DecideLaws.{decided, eq-decides}
 use Rattle.layout.specs.facts.Row.{gap}
-use Rattle.slot_table.specs.facts.SlotTable.{SlotTable}
+use Rattle.slot_table.specs.facts.SlotTable.{SlotTable, Found}
 
 module _ {slot : ℕ → ℕ} {count size : ℕ} {before : List ℕ} where
   -- an entry that names a row is the same in both
   same-row :
-      {x y : List ℕ} → SlotTable slot count size before x → SlotTable slot count size before y →
+      {x : List ℕ} (y : List ℕ) → SlotTable slot count size before x → Found slot count size y →
       (s : ℕ) → s < size → (getD x s 0 ≡ gap → ⊥) → getD y s 0 ≡ getD x s 0
-  same-row {x} {y} h g s lt ne =
+  same-row {x} y h g s lt ne =
       let row = h .named s lt ne in
-      ap (λ (i : ℕ). getD y i 0) (sym (row .1)) ∙ g .found (getD x s 0) (row .0) .1
+      ap (λ (i : ℕ). getD y i 0) (sym (row .1)) ∙ g (getD x s 0) (row .0) .1
 
-  pub slot-table-unique : {x y : List ℕ} → SlotTable slot count size before x → SlotTable slot count size before y → x ≡ y
-  slot-table-unique {x} {y} h g = ext-getD 0 x y (h .kept ∙ sym (g .kept)) (λ i _. ⊎-elim (inside i) (behind i) (lt-or-le i size))
+  pub slot-table-unique :
+      {x y : List ℕ} →
+      SlotTable slot count size before x → Found slot count size x →
+      SlotTable slot count size before y → Found slot count size y →
+      x ≡ y
+  slot-table-unique {x} {y} h found-x g found-y = ext-getD 0 x y (h .kept ∙ sym (g .kept)) (λ i _. ⊎-elim (inside i) (behind i) (lt-or-le i size))
     where
       inside : (i : ℕ) → i < size → getD x i 0 ≡ getD y i 0
       inside i lt =
           ⊎-elim
-          (λ e. ⊎-elim (λ q. e ∙ sym q) (same-row g h i lt) (decided (eq-decides (getD y i 0) gap)))
-          (λ ne. sym (same-row h g i lt ne))
+          (λ e. ⊎-elim (λ q. e ∙ sym q) (same-row x g found-x i lt) (decided (eq-decides (getD y i 0) gap)))
+          (λ ne. sym (same-row y h found-y i lt ne))
           (decided (eq-decides (getD x i 0) gap))
 
       from : (z : List ℕ) (i : ℕ) → size ≤ i → getD (drop size z) (i - size) 0 ≡ getD z i 0

@@ -1,5 +1,6 @@
 // A board's three tables, read without trusting them: records, ancestors, ranges of the pool, properties; and the names of the bindings.
 pub mod binding;
+pub mod boards;
 mod pool;
 mod property;
 mod tree;

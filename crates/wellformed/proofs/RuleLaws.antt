@@ -85,7 +85,7 @@ module _ (b : Board) where
 
   -- every broken rule is seen at its place
   all-seen : {m q : ℕ} → TableRule b m q → (q < placesOf (stage m)) × Seen m (faultOf (stage m) q)
-  all-seen (TableRule.boardWidth n m) = (omega arith, seen (omega arith) (⊎-elim n m) (width-told b))
+  all-seen (TableRule.boardWidth none) = (omega arith, seen (omega arith) none (width-told b))
   all-seen (TableRule.nodeTablePart n) = (omega arith, seen (omega arith) (λ t. n (omega (arith, t .2))) (nodes-told b))
   all-seen (TableRule.nodeTableEmpty e) = (omega arith, seen (omega arith) (λ t. omega (arith, t .0)) (nodes-told b))
   all-seen (TableRule.nodeTableMany l) = (omega arith, seen (omega arith) (λ t. omega (arith, t .1)) (nodes-told b))

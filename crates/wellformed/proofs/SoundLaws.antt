@@ -15,7 +15,7 @@ use Rattle.laws.proofs.TestLaws.{both-true}
 use Rattle.laws.proofs.VerdictLaws.{Verdict}
 use Rattle.laws.specs.facts.Limits.{maxNodeName, maxPropertyName, noParent, maxNodes, maxProperties, maxPool}
 use Rattle.tables.specs.facts.Board.{Board, Inside, nodeCount, parentWord, nameOffset, nameLength, propCount, propNode, propName, keyOffset}
-use Rattle.tables.specs.facts.Board.{keyLength, valueOffset, valueLength}
+use Rattle.tables.specs.facts.Board.{keyLength, valueOffset, valueLength, arm32, arm64, riscv, BoardNumber}
 use Rattle.tables.specs.answers.Tree.{isBelow}
 use Rattle.tables.specs.facts.Tree.{Ancestor}
 use Rattle.wellformed.specs.facts.Rules.{TableRule}
@@ -83,18 +83,23 @@ name-decides pool most offset len = go (eqb len 0) refl (ltb most len) refl (leb
 
 -- Rules 1 to 4.
 module _ (b : Board) where
-  pub width-told : Verdict (TableRule b) 1 0 ((b .width ≡ 32) ⊎ (b .width ≡ 64)) (widthFault (b .width))
-  width-told = go (eqb (b .width) 32) refl (eqb (b .width) 64) refl
+  pub width-told : Verdict (TableRule b) 1 0 (BoardNumber (b .width)) (widthFault (b .width))
+  width-told = go (eqb (b .width) arm32) refl (eqb (b .width) arm64) refl (eqb (b .width) riscv) refl
     where
       go :
           (t : Bool) →
-          eqb (b .width) 32 ≡ t →
+          eqb (b .width) arm32 ≡ t →
           (u : Bool) →
-          eqb (b .width) 64 ≡ u →
-          Verdict (TableRule b) 1 0 ((b .width ≡ 32) ⊎ (b .width ≡ 64)) (cond t 0 (cond u 0 1))
-      go true e u f = Verdict.sound (inl (eqb-true (b .width) 32 e))
-      go false e true f = Verdict.sound (inr (eqb-true (b .width) 64 f))
-      go false e false f = Verdict.broken (TableRule.boardWidth (eqb-false (b .width) 32 e) (eqb-false (b .width) 64 f))
+          eqb (b .width) arm64 ≡ u →
+          (v : Bool) →
+          eqb (b .width) riscv ≡ v →
+          Verdict (TableRule b) 1 0 (BoardNumber (b .width)) (cond t 0 (cond u 0 (cond v 0 1)))
+      go true e u f v g = Verdict.sound (inl (eqb-true (b .width) arm32 e))
+      go false e true f v g = Verdict.sound (inr (inl (eqb-true (b .width) arm64 f)))
+      go false e false f true g = Verdict.sound (inr (inr (eqb-true (b .width) riscv g)))
+      go false e false f false g =
+          Verdict.broken
+          (TableRule.boardWidth (⊎-elim (eqb-false (b .width) arm32 e) (⊎-elim (eqb-false (b .width) arm64 f) (eqb-false (b .width) riscv g))))
 
   abbrev pub NodeWords : Type 0
   NodeWords = (1 ≤ nodeCount (b .nodes)) × (nodeCount (b .nodes) ≤ maxNodes) × (length (b .nodes) ≡ 3 * nodeCount (b .nodes))

@@ -3,6 +3,7 @@ use laws::limits::MAX_NODES;
 use laws::limits::MAX_POOL;
 use laws::limits::MAX_PROPERTIES;
 use laws::rules;
+use tables::boards;
 ghost use mathlib.Core.Path.{_≡_};
 ghost use Rattle.laws.specs.answers.Fault.{orNumber};
 ghost use Rattle.wellformed.specs.answers.Check.{widthFault, nodeWordsFault, propWordsFault, poolFault};
@@ -10,10 +11,13 @@ ghost use Rattle.wellformed.specs.answers.Check.{widthFault, nodeWordsFa
 fn width_fault(width: u32) -> u32
     ensures { λ r. ⌜ r ≡ widthFault width ⌝ }
 {
-    if width == 32 {
+    if width == boards::ARM32 {
         return 0;
     }
-    if width == 64 {
+    if width == boards::ARM64 {
+        return 0;
+    }
+    if width == boards::RISCV {
         return 0;
     }
     rules::BOARD_WIDTH

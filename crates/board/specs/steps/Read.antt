@@ -1,15 +1,14 @@
 -- What is told of a board, by what is asked for.
 use mathlib.Core.Bool.{cond}
-use mathlib.Core.List.{List}
 use Prim.Native.Nat.{ℕ}
 use lib.Dec.{eqb}
 use Rattle.laws.specs.facts.Limits.{noProperty}
 use Rattle.laws.specs.declared.Fault.{Fault}
 use Rattle.laws.specs.answers.Fault.{told, orElse}
 use Rattle.slot_table.specs.answers.Table.{entriesFault}
-use Rattle.affinity.specs.answers.Hash.{hashOf}
 use Rattle.tables.specs.facts.Board.{Board}
-use Rattle.cpus.specs.answers.Check.{mpidrList}
+use Rattle.rows.specs.declared.BoardSlots.{BoardSlots}
+use Rattle.rows.specs.answers.Slots.{boardHash}
 use Rattle.demands.specs.declared.BoardAnswer.{BoardAnswer}
 use Rattle.demands.specs.answers.Answer.{roomFault, boardFault, refusedWith}
 use Rattle.board.specs.declared.Surveyed.{Surveyed}
@@ -28,16 +27,14 @@ roomsFault found room asked bits = orElse (found .fault) (orElse (told (roomFaul
 
 -- what is told of a board
 abbrev pub readFault : Board → ℕ → Asked → Fault
-readFault b room asked = orElse (boardFault b room) (told (tableFault asked (hashOf (mpidrList b) .bits)) 0)
+readFault b room asked = orElse (boardFault b room) (told (tableFault asked (boardHash b .bits)) 0)
 
--- .. and of a surveyed one with these MPIDRs, for a row buffer of so many words
-abbrev pub checkedOf : Surveyed → List ℕ → ℕ → Asked → Checked
-checkedOf found mpidrs room asked =
-    let hash = hashOf mpidrs in
-    record { fault = roomsFault found room asked (hash .bits); count = found .cpus; hash = hash }
+-- .. and of a surveyed one with such slots, for a row buffer of so many words
+abbrev pub checkedOf : Surveyed → BoardSlots → ℕ → Asked → Checked
+checkedOf found slots room asked = record { fault = roomsFault found room asked (slots .hash .bits); count = found .cpus; slots = slots }
 
 -- what is answered of it
 abbrev pub answerFrom : Checked → BoardAnswer
 answerFrom c =
-    cond (eqb (c .fault .number) 0) (record { number = 0; place = 0; second = noProperty; count = c .count; hash = c .hash })
+    cond (eqb (c .fault .number) 0) (record { number = 0; place = 0; second = noProperty; count = c .count; hash = c .slots .hash })
     (refusedWith (c .fault))

@@ -8,7 +8,7 @@ use lib.ListN.{length}
 use Rattle.laws.specs.declared.Fault.{Fault}
 use Rattle.laws.specs.answers.Listed.{laidOver}
 use Rattle.tables.specs.facts.Board.{Board}
-use Rattle.cpus.specs.answers.Check.{cpuCount, cpuList, mpidrList}
+use Rattle.cpus.specs.answers.Check.{cpuCount, cpuList, regList}
 use Rattle.leaves.specs.answers.Scan.{leavesOf, namedOf}
 use Rattle.board.specs.declared.Surveyed.{Surveyed}
 use Rattle.demands.specs.answers.Survey.{surveyFault}
@@ -23,8 +23,8 @@ surveyOf b =
     cond (eqb (f .number) 0) (record { fault = f; cpus = cpuCount b; leaves = length (leavesOf b) }) (stopped f)
 
 -- four lent arrays, before and after: each list over what its array held
-pub record Lists (b : Board) (cpus₀ mpidrs₀ leaves₀ named₀ cpus mpidrs leaves named : List ℕ) : Type 0 where
+pub record Lists (b : Board) (cpus₀ regs₀ leaves₀ named₀ cpus regs leaves named : List ℕ) : Type 0 where
   pub cpus-laid : cpus ≡ laidOver (cpuList b) cpus₀
-  pub mpidrs-laid : mpidrs ≡ laidOver (mpidrList b) mpidrs₀
+  pub regs-laid : regs ≡ laidOver (regList b) regs₀
   pub leaves-laid : leaves ≡ laidOver (leavesOf b) leaves₀
   pub named-laid : named ≡ laidOver (namedOf b) named₀

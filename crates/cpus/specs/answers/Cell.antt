@@ -1,5 +1,5 @@
 -- Reading a property's value as a number of one cell or of two.
-use mathlib.Core.Bool.{Bool, false, cond}
+use mathlib.Core.Bool.{Bool, true, false, cond}
 use mathlib.Core.List.{List}
 use Prim.Native.Nat.{ℕ, _+_, _*_, _^_}
 use lib.Dec.{eqb, leb}
@@ -8,6 +8,7 @@ use Rattle.affinity.specs.answers.Level.{isAffine}
 use Rattle.tables.specs.declared.Found.{Found}
 use Rattle.tables.specs.declared.Lookup.{Lookup}
 use Rattle.tables.specs.declared.Lookup.the-variants.{At, Missing}
+use Rattle.tables.specs.facts.Board.{riscv}
 use Rattle.tables.specs.facts.Property.{cellAt}
 use Rattle.tables.specs.answers.Lookup.{lookup}
 use Rattle.cpus.specs.declared.Cells.{Cells}
@@ -46,10 +47,13 @@ abbrev pub isNumber : Value → ℕ → Bool
 isNumber (Number n) number = eqb n number
 isNumber Invalid number = false
 
--- an MPIDR: affinity bits alone
-abbrev pub affineOnly : Value → Value
-affineOnly (Number m) = cond (isAffine m) (Number m) Invalid
-affineOnly Invalid = Invalid
+-- whether a number may be a `reg` on a board of a width: a hart id always, an MPIDR with affinity bits alone
+unfoldable pub isReg : ℕ → ℕ → Bool
+isReg width n = cond (eqb width riscv) true (isAffine n)
+
+abbrev pub regIn : ℕ → Value → Value
+regIn width (Number n) = cond (isReg width n) (Number n) Invalid
+regIn width Invalid = Invalid
 
 -- a phandle: neither 0 nor 0xFFFFFFFF
 abbrev pub phandleIn : Value → Value

@@ -10,7 +10,7 @@ use Rattle.laws.specs.answers.Fault.{told, orElse, withSecond}
 use Rattle.tables.specs.facts.Binding.{cpusWord, cpuWord, cpuUnit, addressCellsKey, sizeCellsKey}
 use Rattle.tables.specs.answers.Lookup.{lookup, recordOf}
 use Rattle.tables.specs.answers.Range.{rangeIs}
-use Rattle.tables.specs.facts.Board.{Board, nodeCount, nameOffset, nameLength}
+use Rattle.tables.specs.facts.Board.{Board, arm64, nodeCount, nameOffset, nameLength}
 use Rattle.tables.specs.answers.Tree.{isChild}
 use Rattle.cpus.specs.declared.Cells.the-variants.{One, Two}
 use Rattle.cpus.specs.declared.RootCells.{RootCells}
@@ -19,7 +19,7 @@ use Rattle.cpus.specs.declared.RootReading.{RootReading}
 use Rattle.cpus.specs.declared.Value.{Value}
 use Rattle.cpus.specs.declared.Value.the-variants.{Number, Invalid}
 use Rattle.cpus.specs.declared.Cells.{Cells}
-use Rattle.cpus.specs.declared.CpuNumbers.the-variants.{Mpidrs, Phandles}
+use Rattle.cpus.specs.declared.CpuNumbers.the-variants.{Regs, Phandles}
 use Rattle.cpus.specs.declared.CpuReading.{CpuReading}
 use Rattle.cpus.specs.answers.Cell.{cellOf, isNumber}
 use Rattle.cpus.specs.answers.Numbers.{readingOf, firstRecord}
@@ -31,9 +31,9 @@ isCpuName pool offset len = cond (rangeIs pool offset len cpuWord) true (cond (l
 unfoldable pub isCpu : List ℕ → List ℕ → ℕ → Bool
 isCpu nodes pool i = cond (isChild nodes 0 i) (isCpuName pool (nameOffset nodes i) (nameLength nodes i)) false
 
--- what `#address-cells` gives a board of a width: one cell, or on width 64 two
+-- what `#address-cells` gives a board of a width: one cell, or on 64-bit ARM two
 abbrev pub cellsFor : ℕ → Value → RootCells
-cellsFor width (Number n) = cond (eqb n 1) (Are One) (cond (eqb n 2) (cond (eqb width 64) (Are Two) Broken) Broken)
+cellsFor width (Number n) = cond (eqb n 1) (Are One) (cond (eqb n 2) (cond (eqb width arm64) (Are Two) Broken) Broken)
 cellsFor width Invalid = Broken
 
 unfoldable pub addressCells : Board → RootCells
@@ -84,23 +84,23 @@ countFault n = cond (eqb n 0) 10 (cond (ltb maxCpus n) 10 0)
 abbrev pub cpuList : Board → List ℕ
 cpuList b = listBelow (isCpu (b .nodes) (b .pool)) (nodeCount (b .nodes))
 
--- the readings of the records, looked up in the property table: their MPIDRs, and their phandles
-abbrev pub mpidrReadings : Board → ℕ → CpuReading
-mpidrReadings b = readingOf (Mpidrs (regCells b)) (b .props) (b .pool)
+-- the readings of the records, looked up in the property table: their `reg`s, and their phandles
+abbrev pub regReadings : Board → ℕ → CpuReading
+regReadings b = readingOf (Regs (regCells b) (b .width)) (b .props) (b .pool)
 
 abbrev pub phandleReadings : Board → ℕ → CpuReading
 phandleReadings b = readingOf Phandles (b .props) (b .pool)
 
-abbrev pub mpidrAt : Board → ℕ → ℕ
-mpidrAt b i = mpidrReadings b i .value
+abbrev pub regAt : Board → ℕ → ℕ
+regAt b i = regReadings b i .value
 
--- the MPIDRs of the cpu records
-abbrev pub mpidrList : Board → List ℕ
-mpidrList b = map (mpidrAt b) (cpuList b)
+-- the MPIDRs or hart ids of the cpu records
+abbrev pub regList : Board → List ℕ
+regList b = map (regAt b) (cpuList b)
 
 -- the first of rules 11 to 13 that a cpu record breaks
 abbrev pub cpuFault : Board → Fault
-cpuFault b = firstRecord (mpidrReadings b) 13 (cpuList b)
+cpuFault b = firstRecord (regReadings b) 13 (cpuList b)
 
 -- the first of rules 9 to 13, 36 and 37 that is broken
 unfoldable pub cpusFault : Board → Fault

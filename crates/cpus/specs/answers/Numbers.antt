@@ -1,4 +1,4 @@
--- A number of each cpu record of a list, its MPIDR or its phandle, gathered in one pass over the list.
+-- A number of each cpu record of a list, its `reg` or its phandle, gathered in one pass over the list.
 use mathlib.Core.Bool.{cond, Bool}
 use mathlib.Core.List.{List, map}
 use Prim.Native.Nat.{ℕ}
@@ -19,7 +19,7 @@ use Rattle.cpus.specs.declared.CpuReading.{CpuReading}
 use Rattle.cpus.specs.declared.Value.{Value}
 use Rattle.cpus.specs.declared.Value.the-variants.{Number, Invalid}
 use Rattle.cpus.specs.declared.CpuNumbers.{CpuNumbers}
-use Rattle.cpus.specs.answers.Cell.{valueIn, cellIn, isNumber, affineOnly, phandleIn, cpuCell}
+use Rattle.cpus.specs.answers.Cell.{valueIn, cellIn, isNumber, regIn, phandleIn, cpuCell}
 use Rattle.cpus.specs.declared.CpuNumbers.the-variants as wanted
 
 abbrev pub cpuReading : (number second value : ℕ) → CpuReading
@@ -31,11 +31,11 @@ numberOr rule found repeated (Number n) = cpuReading 0 repeated n
 numberOr rule found repeated Invalid = cpuReading rule (recordOf found) 0
 
 -- What a cpu record alone breaks, 0 where nothing, the second place of what is told of it, and its number, from where its properties stand.
--- A repeated MPIDR is told of no property, a repeated phandle of the `phandle`.
+-- A repeated `reg` is told of no property, a repeated phandle of the `phandle`.
 unfoldable pub readingFrom : CpuNumbers → List ℕ → (Key → Lookup) → CpuReading
-readingFrom (wanted.Mpidrs cells) pool at =
+readingFrom (wanted.Regs cells width) pool at =
     cond (isNumber (cellIn pool (at DeviceType)) cpuCell)
-    (numberOr 12 (at Reg) noProperty (affineOnly (valueIn pool cells (at Reg))))
+    (numberOr 12 (at Reg) noProperty (regIn width (valueIn pool cells (at Reg))))
     (cpuReading 11 (recordOf (at DeviceType)) 0)
 readingFrom wanted.Phandles pool at = numberOr 17 (at Phandle) (recordOf (at Phandle)) (phandleIn (cellIn pool (at Phandle)))
 
@@ -48,7 +48,7 @@ readingOf w props pool i = readingFrom w pool (λ key. lookup props pool i (keyN
 
 -- the rule that a repeated number breaks
 abbrev pub repeatRule : CpuNumbers → ℕ
-repeatRule (wanted.Mpidrs cells) = 13
+repeatRule (wanted.Regs cells width) = 13
 repeatRule wanted.Phandles = 17
 
 -- a reading, refused where its number was seen

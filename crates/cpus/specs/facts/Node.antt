@@ -5,7 +5,7 @@ use mathlib.Core.Logic.{_⊎_}
 use Prim.Native.Nat.{ℕ, _^_, _<_, _+_, _*_}
 use Rattle.tables.specs.facts.Binding.{regKey, phandleKey, cpuWord, cpuUnit, addressCellsKey, sizeCellsKey}
 use Rattle.tables.specs.facts.Tree.{Child}
-use Rattle.tables.specs.facts.Board.{Board, nodeName}
+use Rattle.tables.specs.facts.Board.{Board, arm64, riscv, HasMpidrs, nodeName}
 use Rattle.tables.specs.facts.Property.{HasValue, cellBytes}
 
 -- a name that begins with given bytes
@@ -18,10 +18,10 @@ pub record Cpu (b : Board) (i : ℕ) : Type 0 where
   pub child : Child (b .nodes) 0 i
   pub name : (nodeName b i ≡ cpuWord) ⊎ Begins (nodeName b i) cpuUnit
 
--- how many address cells a board of a width may have: 1, and on width 64 also 2
+-- how many address cells a board of a width may have: 1, and on 64-bit ARM also 2
 pub data CellsAllowed : ℕ → ℕ → Type 0 where
   one : {width : ℕ} → CellsAllowed width 1
-  two : CellsAllowed 64 2
+  two : CellsAllowed arm64 2
 
 -- `#address-cells` of record 0: four bytes of an allowed value
 pub record AddressCells (b : Board) (n : ℕ) : Type 0 where
@@ -32,9 +32,14 @@ pub record AddressCells (b : Board) (n : ℕ) : Type 0 where
 abbrev pub SizeCells : Board → Type 0
 SizeCells b = HasValue b 0 sizeCellsKey (cellBytes 0)
 
--- `reg` of record i: the upper cell, 0 where there is one address cell, and the lower, with affinity bits alone
+-- the only cell of a `reg`: of an MPIDR affinity bits alone, of a hart id any
+pub data OnlyCell (b : Board) (cell : ℕ) : Type 0 where
+  affinity : HasMpidrs b → cell < 2 ^ 24 → OnlyCell b cell
+  hart : b .width ≡ riscv → cell < 2 ^ 32 → OnlyCell b cell
+
+-- `reg` of record i: the upper cell, 0 where there is one address cell, and the lower
 pub data Reg (b : Board) (i : ℕ) : ℕ → ℕ → Type 0 where
-  oneCell : {lower : ℕ} → AddressCells b 1 → HasValue b i regKey (cellBytes lower) → lower < 2 ^ 24 → Reg b i 0 lower
+  oneCell : {lower : ℕ} → AddressCells b 1 → HasValue b i regKey (cellBytes lower) → OnlyCell b lower → Reg b i 0 lower
   twoCells :
       {upper lower : ℕ} →
       AddressCells b 2 →
@@ -43,9 +48,9 @@ pub data Reg (b : Board) (i : ℕ) : ℕ → ℕ → Type 0 where
       lower < 2 ^ 24 →
       Reg b i upper lower
 
--- an MPIDR of two cells
-abbrev pub mpidr : ℕ → ℕ → ℕ
-mpidr upper lower = upper * 2 ^ 32 + lower
+-- the two cells as one number: an MPIDR, or a hart id
+abbrev pub regNumber : ℕ → ℕ → ℕ
+regNumber upper lower = upper * 2 ^ 32 + lower
 
 -- `phandle` of record i: four bytes, neither 0 nor 0xFFFFFFFF
 pub record Phandle (b : Board) (i h : ℕ) : Type 0 where

@@ -9,9 +9,10 @@ use Rattle.laws.specs.declared.Fault.{Fault}
 use Rattle.laws.specs.answers.Fault.{told, orElse}
 use Rattle.layout.specs.facts.Row.{rowSize}
 use Rattle.affinity.specs.facts.List.{noHash}
-use Rattle.affinity.specs.answers.Hash.{hashOf}
+use Rattle.affinity.specs.declared.Hash.{Hash}
 use Rattle.tables.specs.facts.Board.{Board}
-use Rattle.cpus.specs.answers.Check.{cpuCount, mpidrList}
+use Rattle.cpus.specs.answers.Check.{cpuCount}
+use Rattle.rows.specs.answers.Slots.{boardHash}
 use Rattle.rows.specs.answers.Write.{Source, written, sourceOf}
 use Rattle.demands.specs.declared.BoardAnswer.{BoardAnswer}
 use Rattle.demands.specs.answers.Survey.{surveyFault}
@@ -28,17 +29,17 @@ boardFault b room = orElse (surveyFault b) (told (roomFault room (cpuCount b)) 0
 abbrev pub refusedWith : Fault → BoardAnswer
 refusedWith f = record { number = f .number; place = f .place; second = f .second; count = 0; hash = noHash }
 
--- what is answered where a fault is told, or where none is: how many cpu records there are, and the hash of their MPIDRs
-abbrev pub answerBy : Fault → ℕ → List ℕ → BoardAnswer
-answerBy f count mpidrs =
-    cond (eqb (f .number) 0) (record { number = 0; place = 0; second = noProperty; count = count; hash = hashOf mpidrs }) (refusedWith f)
+-- what is answered where a fault is told, or where none is: how many cpu records there are, and the board's hash
+abbrev pub answerBy : Fault → ℕ → Hash → BoardAnswer
+answerBy f count hash =
+    cond (eqb (f .number) 0) (record { number = 0; place = 0; second = noProperty; count = count; hash = hash }) (refusedWith f)
 
 -- the row buffer afterwards: with the rows where no fault is told
 abbrev pub rowsBy : Fault → Source → List ℕ → List ℕ
 rowsBy f s before = cond (eqb (f .number) 0) (written s before) before
 
 unfoldable pub answerOf : Board → ℕ → BoardAnswer
-answerOf b room = answerBy (boardFault b room) (cpuCount b) (mpidrList b)
+answerOf b room = answerBy (boardFault b room) (cpuCount b) (boardHash b)
 
 -- the row buffer after the call
 unfoldable pub rowsAfter : Board → List ℕ → List ℕ

@@ -7,9 +7,9 @@ use lib.ListN.{length}
 use Rattle.laws.specs.declared.Fault.{Fault}
 use Rattle.laws.specs.answers.Fault.{told, orElse}
 use Rattle.slot_table.specs.answers.Table.{entriesFault, filled}
-use Rattle.affinity.specs.answers.Hash.{hashOf}
 use Rattle.tables.specs.facts.Board.{Board}
-use Rattle.cpus.specs.answers.Check.{cpuCount, mpidrList}
+use Rattle.cpus.specs.answers.Check.{cpuCount}
+use Rattle.rows.specs.answers.Slots.{boardHash}
 use Rattle.rows.specs.answers.Write.{sourceOf}
 use Rattle.demands.specs.declared.BoardAnswer.{BoardAnswer}
 use Rattle.demands.specs.facts.Reading.{rowsIn}
@@ -17,10 +17,10 @@ use Rattle.demands.specs.answers.Answer.{boardFault, answerBy, rowsBy}
 
 -- the first of rules 1 to 27 and 36 to 39 that is broken
 unfoldable pub slotsFault : Board → ℕ → ℕ → Fault
-slotsFault b room entries = orElse (boardFault b room) (told (entriesFault (hashOf (mpidrList b) .bits) entries) 0)
+slotsFault b room entries = orElse (boardFault b room) (told (entriesFault (boardHash b .bits) entries) 0)
 
 unfoldable pub slotsAnswer : Board → ℕ → ℕ → BoardAnswer
-slotsAnswer b room entries = answerBy (slotsFault b room entries) (cpuCount b) (mpidrList b)
+slotsAnswer b room entries = answerBy (slotsFault b room entries) (cpuCount b) (boardHash b)
 
 -- the row buffer after the call with a table of so many entries
 unfoldable pub slotsRows : Board → List ℕ → ℕ → List ℕ

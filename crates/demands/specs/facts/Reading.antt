@@ -6,9 +6,9 @@ use Prim.Native.Nat.{ℕ, _*_, _^_, _<_}
 use lib.ListN.{take, length, drop}
 use Rattle.laws.specs.facts.Limits.{noProperty}
 use Rattle.laws.specs.facts.Listing.{Listing}
-use Rattle.layout.specs.facts.Row.{rowSize, slotAt}
+use Rattle.layout.specs.facts.Row.{rowSize, gap, slotAt}
 use Rattle.affinity.specs.facts.List.{noHash}
-use Rattle.tables.specs.facts.Board.{Board}
+use Rattle.tables.specs.facts.Board.{Board, riscv, HasMpidrs}
 use Rattle.tables.specs.facts.Second.{Second}
 use Rattle.wellformed.specs.facts.Rules.{WellFormed}
 use Rattle.cpus.specs.facts.Node.{Cpu}
@@ -32,7 +32,8 @@ pub record Refused (b : Board) (Rule : ℕ → ℕ → Type 0) (before : List �
   pub hash : answer .hash ≡ noHash
   pub buffer : after ≡ before
 
--- an acceptance: rows that fit the map and no others do, the words behind them as they were, the count, the hash, and the slots
+-- an acceptance: rows that fit the map and no others do, the words behind them as they were, the count, the hash, and the slots: of MPIDRs
+-- distinct and bounded, of hart ids gaps
 pub record Accepted (b : Board) (before : List ℕ) (answer : BoardAnswer) (after : List ℕ) : Type 0 where
   pub place : answer .place ≡ 0
   pub second : answer .second ≡ noProperty
@@ -42,8 +43,9 @@ pub record Accepted (b : Board) (before : List ℕ) (answer : BoardAnswer) (afte
   pub size : length after ≡ length before
   pub count : (cpus : List ℕ) × Listing (Cpu b) cpus × (answer .count ≡ length cpus)
   pub hash : BoardHash b (answer .hash)
-  pub distinct : (j k : ℕ) → j < answer .count → k < answer .count → slotAt after j ≡ slotAt after k → j ≡ k
-  pub bounded : (k : ℕ) → k < answer .count → slotAt after k < 2 ^ (answer .hash .bits)
+  pub distinct : HasMpidrs b → (j k : ℕ) → j < answer .count → k < answer .count → slotAt after j ≡ slotAt after k → j ≡ k
+  pub bounded : HasMpidrs b → (k : ℕ) → k < answer .count → slotAt after k < 2 ^ (answer .hash .bits)
+  pub gaps : b .width ≡ riscv → (k : ℕ) → k < answer .count → slotAt after k ≡ gap
 
 -- demand 3: accepted exactly when the board has a map and no map rule is broken
 pub record Reading (b : Board) (before : List ℕ) (answer : BoardAnswer) (after : List ℕ) : Type 0 where

@@ -1,12 +1,12 @@
 -- What holds of the call that fills a table of slots besides the rows (02, W5): 38 and 39 behind all other rules, and the claim about it.
 use mathlib.Core.Path.{_≡_}
-use mathlib.Core.List.{List}
+use mathlib.Core.List.{List, _∷_}
 use Prim.Native.Nat.{ℕ, _^_}
-use lib.ListN.{length}
-use Rattle.layout.specs.facts.Row.{slotAt}
-use Rattle.slot_table.specs.facts.SlotTable.{SlotTableRule, SlotTable}
+use lib.ListN.{length, drop}
+use Rattle.layout.specs.facts.Row.{gap, slotAt}
+use Rattle.slot_table.specs.facts.SlotTable.{SlotTableRule, SlotTable, Found}
 use Rattle.affinity.specs.declared.Hash.{Hash}
-use Rattle.tables.specs.facts.Board.{Board}
+use Rattle.tables.specs.facts.Board.{Board, riscv, HasMpidrs}
 use Rattle.rows.specs.facts.BoardHash.{BoardHash}
 use Rattle.demands.specs.declared.BoardAnswer.{BoardAnswer}
 use Rattle.demands.specs.facts.Rules.{Breaks}
@@ -31,3 +31,6 @@ pub record SlotTableDemands (b : Board) (rows table : List ℕ) (answer : BoardA
   pub as-without : ((n p : ℕ) → SlotTableBroken b (length table) n p → ⊥) → Demands b rows answer rowsAfter
   -- an acceptance: two to the bit count entries, from slots to rows
   pub tabled : answer .number ≡ 0 → SlotTable (slotAt rowsAfter) (answer .count) (2 ^ (answer .hash .bits)) table tableAfter
+  -- each row is found from the slot of its MPIDR; a RISC-V board has one entry, GAP (02, W7)
+  pub found : answer .number ≡ 0 → HasMpidrs b → Found (slotAt rowsAfter) (answer .count) (2 ^ (answer .hash .bits)) tableAfter
+  pub no-slots : answer .number ≡ 0 → b .width ≡ riscv → tableAfter ≡ gap ∷ drop 1 table

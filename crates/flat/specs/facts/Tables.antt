@@ -4,7 +4,7 @@ use mathlib.Core.Logic.{_⊎_}
 use mathlib.Core.Path.{_≡_}
 use Prim.Native.Nat.{ℕ, _<_}
 use Rattle.laws.specs.facts.Limits.{noParent, maxNodes, maxProperties, maxNodeName, maxPropertyName}
-use Rattle.tables.specs.facts.Board.{Board, board, nodeCount, nameLength, propCount, propNode, keyLength, propName}
+use Rattle.tables.specs.facts.Board.{Board, BoardNumber, board, nodeCount, nameLength, propCount, propNode, keyLength, propName}
 use Rattle.wellformed.specs.facts.Rules.{TableRule}
 use Rattle.stream.specs.facts.Tree.{Nodes, nodeWords, propWords}
 
@@ -14,7 +14,7 @@ boardOf width blob cpus = board width (nodeWords noParent 0 cpus) (propWords 0 c
 -- Only the width, the counts of the records, the lengths of names and repeated properties are left to be told: no record is cut, none is missing, no
 -- node stands out of order, and every range lies in the pool.
 pub data LeftToTell (b : Board) : ℕ → ℕ → Type 0 where
-  boardWidth : (b .width ≡ 32 → ⊥) → (b .width ≡ 64 → ⊥) → LeftToTell b 1 0
+  boardWidth : (BoardNumber (b .width) → ⊥) → LeftToTell b 1 0
   nodeTableMany : maxNodes < nodeCount (b .nodes) → LeftToTell b 2 0
   propertyTableMany : maxProperties < propCount (b .props) → LeftToTell b 3 0
   nodeNameLength : {i : ℕ} → i < nodeCount (b .nodes) → (nameLength (b .nodes) i ≡ 0) ⊎ (maxNodeName < nameLength (b .nodes) i) → LeftToTell b 5 i

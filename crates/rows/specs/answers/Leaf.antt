@@ -31,8 +31,8 @@ rowOf nodes pool i named =
     record {
       leaf = i % 2 ^ 32;
       cpu = named .cpu % 2 ^ 32;
-      upper = named .mpidr / 2 ^ 32;
-      lower = named .mpidr % 2 ^ 32;
+      upper = named .reg / 2 ^ 32;
+      lower = named .reg % 2 ^ 32;
       socket = socketNumber nodes pool i;
       path = clusterPath nodes pool i .numbers;
       core = coreOf (topologyName nodes pool i) (topologyName nodes pool (parentWord nodes i));

@@ -8,9 +8,9 @@ use Rattle.layout.specs.facts.Row.{rowSize, gap, rowLeaf, rowCpu, rowUpper, row
 use Rattle.affinity.specs.declared.Hash.{Hash}
 use Rattle.affinity.specs.facts.Slot.{slotOf}
 use Rattle.names.specs.facts.Kind.{Kind, Named}
-use Rattle.tables.specs.facts.Board.{Board, nodeName}
+use Rattle.tables.specs.facts.Board.{Board, riscv, HasMpidrs, nodeName}
 use Rattle.tables.specs.facts.Tree.{Child, Ancestor}
-use Rattle.cpus.specs.facts.Node.{Reg, mpidr}
+use Rattle.cpus.specs.facts.Node.{Reg, regNumber}
 use Rattle.cpumap.specs.facts.Map.{OfKind, ClusterAbove}
 use Rattle.leaves.specs.facts.Leaf.{Leaf, Names}
 use Rattle.rows.specs.facts.BoardHash.{BoardHash}
@@ -43,11 +43,10 @@ pub data ThreadWord (b : Board) (leaf : ℕ) : ℕ → Type 0 where
   itself : (n : ℕ) → Named (nodeName b leaf) Kind.thread n → ThreadWord b leaf n
   notThread : (OfKind b Kind.thread leaf → ⊥) → ThreadWord b leaf gap
 
--- the slot of an MPIDR under the board's hash
-pub record SlotWord (b : Board) (m word : ℕ) : Type 0 where
-  pub hash : Hash
-  pub is-hash : BoardHash b hash
-  pub slot : word ≡ slotOf hash m
+-- the slot of an MPIDR under the board's hash; a hart id has none
+pub data SlotWord (b : Board) (m : ℕ) : ℕ → Type 0 where
+  slotted : HasMpidrs b → (h : Hash) → BoardHash b h → SlotWord b m (slotOf h m)
+  noSlot : b .width ≡ riscv → SlotWord b m gap
 
 -- the words of one row
 pub record RowFits (b : Board) (leaf : ℕ) (row : List ℕ) : Type 0 where
@@ -59,7 +58,7 @@ pub record RowFits (b : Board) (leaf : ℕ) (row : List ℕ) : Type 0 where
   pub cluster : (d : ℕ) → d < 4 → ClusterWord b leaf d (rowCluster row d)
   pub core : CoreWord b leaf (rowCore row)
   pub thread : ThreadWord b leaf (rowThread row)
-  pub slot : SlotWord b (mpidr (rowUpper row) (rowLower row)) (rowSlot row)
+  pub slot : SlotWord b (regNumber (rowUpper row) (rowLower row)) (rowSlot row)
 
 -- a table of rows fits the map: one row for each leaf, in leaf record order
 pub record Fits (b : Board) (rows : List ℕ) : Type 0 where

@@ -14,8 +14,6 @@ pub data SlotTableRule (bits entries : ℕ) : ℕ → ℕ → Type 0 where
 
 -- a table of `size` entries for `count` rows with these slots: the lent words before and after
 pub record SlotTable (slot : ℕ → ℕ) (count size : ℕ) (before after : List ℕ) : Type 0 where
-  -- each row is found from its slot
-  pub found : (k : ℕ) → k < count → (slot k < size) × (getD after (slot k) 0 ≡ k)
   -- an entry that is not GAP names a row with that slot
   pub named : (s : ℕ) → s < size → (getD after s 0 ≡ gap → ⊥) → (getD after s 0 < count) × (slot (getD after s 0) ≡ s)
   -- GAP stands exactly where no row has the slot
@@ -25,16 +23,20 @@ pub record SlotTable (slot : ℕ → ℕ) (count size : ℕ) (before after : Lis
   pub rest : drop size after ≡ drop size before
   pub kept : length after ≡ length before
 
--- rows that a table can tell apart: no two have one slot, each slot is below the size, and GAP is no row's number
+-- each row is found from its slot
+abbrev pub Found : (slot : ℕ → ℕ) (count size : ℕ) (table : List ℕ) → Type 0
+Found slot count size table = (k : ℕ) → k < count → (slot k < size) × (getD table (slot k) 0 ≡ k)
+
+-- rows that a table can tell apart: no two have one slot, and each slot is below the size
 pub record Slotted (slot : ℕ → ℕ) (count size : ℕ) : Type 0 where
   pub distinct : (j k : ℕ) → j < count → k < count → slot j ≡ slot k → j ≡ k
   pub bounded : (k : ℕ) → k < count → slot k < size
-  pub few : count ≤ gap
 
--- where neither rule is broken and the rows can be told apart, the table is theirs
+-- where neither rule is broken and GAP is no row's number, the table is that of the rows; where it can tell them apart, each is found
 abbrev pub Tabled : (rows : List ℕ) (bits : ℕ) (before after : List ℕ) → Type 0
 Tabled rows bits before after =
     let count = length rows / rowSize in
     ((n p : ℕ) → SlotTableRule bits (length before) n p → ⊥) →
-    Slotted (slotAt rows) count (2 ^ bits) →
+    count ≤ gap →
     SlotTable (slotAt rows) count (2 ^ bits) before after
+    × (Slotted (slotAt rows) count (2 ^ bits) → Found (slotAt rows) count (2 ^ bits) after)

@@ -1,4 +1,6 @@
 -- A board's tables (01, "The tables"): the width, the words of the node and property records, the bytes of the pool.
+use mathlib.Core.Path.{_≡_}
+use mathlib.Core.Logic.{_⊎_}
 use mathlib.Core.List.{List}
 use Prim.Native.Nat.{ℕ, _^_, _<_, _+_, _≤_, _/_, _*_}
 use lib.ListN.{getD, length, take, drop}
@@ -8,6 +10,24 @@ pub record Board : Type 0 where
   pub nodes : List ℕ
   pub props : List ℕ
   pub pool : List ℕ
+
+-- the board numbers: ARM of 32 and of 64 bits, and RISC-V (02, W7)
+abbrev pub arm32 : ℕ
+arm32 = 32
+
+abbrev pub arm64 : ℕ
+arm64 = 64
+
+abbrev pub riscv : ℕ
+riscv = 5
+
+-- what the width may be
+abbrev pub BoardNumber : ℕ → Type 0
+BoardNumber width = (width ≡ arm32) ⊎ ((width ≡ arm64) ⊎ (width ≡ riscv))
+
+-- the cpus of a board have MPIDRs; those of a RISC-V board have hart ids
+abbrev pub HasMpidrs : Board → Type 0
+HasMpidrs b = b .width ≡ riscv → ⊥
 
 -- the board that four slices hold
 abbrev pub board : ℕ → List ℕ → List ℕ → List ℕ → Board

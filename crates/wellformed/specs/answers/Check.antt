@@ -6,12 +6,12 @@ use lib.ListN.{length}
 use Rattle.laws.specs.declared.Fault.{Fault}
 use Rattle.laws.specs.facts.Limits.{maxNodes, maxProperties, maxPool}
 use Rattle.laws.specs.answers.Fault.{told, orElse, firstFault}
-use Rattle.tables.specs.facts.Board.{Board, nodeCount, propCount}
+use Rattle.tables.specs.facts.Board.{Board, arm32, arm64, riscv, nodeCount, propCount}
 use Rattle.records.specs.answers.Check.{nodeFault, propertyFault}
 
 -- rules 1 to 4, each its number or 0
 abbrev pub widthFault : ℕ → ℕ
-widthFault width = cond (eqb width 32) 0 (cond (eqb width 64) 0 1)
+widthFault width = cond (eqb width arm32) 0 (cond (eqb width arm64) 0 (cond (eqb width riscv) 0 1))
 
 abbrev pub nodeWordsFault : ℕ → ℕ
 nodeWordsFault words = cond (eqb (words % 3) 0) (cond (eqb words 0) 2 (cond (ltb (3 * maxNodes) words) 2 0)) 2

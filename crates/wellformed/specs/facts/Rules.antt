@@ -5,11 +5,11 @@ use Prim.Native.Nat.{ℕ, suc, _%_, _<_, _≤_}
 use lib.ListN.{length}
 use Rattle.laws.specs.facts.Limits.{maxNodeName, maxPropertyName, noParent, maxNodes, maxProperties, maxPool}
 use Rattle.tables.specs.facts.Board.{Board, Inside, nodeCount, parentWord, nameOffset, nameLength, propCount, propNode, keyOffset, keyLength}
-use Rattle.tables.specs.facts.Board.{valueOffset, valueLength, propName}
+use Rattle.tables.specs.facts.Board.{valueOffset, valueLength, propName, BoardNumber}
 use Rattle.tables.specs.facts.Tree.{Ancestor}
 
 pub data TableRule (b : Board) : ℕ → ℕ → Type 0 where
-  boardWidth : (b .width ≡ 32 → ⊥) → (b .width ≡ 64 → ⊥) → TableRule b 1 0
+  boardWidth : (BoardNumber (b .width) → ⊥) → TableRule b 1 0
   nodeTablePart : (length (b .nodes) % 3 ≡ 0 → ⊥) → TableRule b 2 0
   nodeTableEmpty : nodeCount (b .nodes) ≡ 0 → TableRule b 2 0
   nodeTableMany : maxNodes < nodeCount (b .nodes) → TableRule b 2 0

@@ -22,8 +22,8 @@ same-length c = search needs
 returns-2 : tie.Need-returns-2
 returns-2 c =
     let wrote = c .before .before in
-    let start = wrote .before .before .before .before .before .before .before .before .before .before .before .before .before in
-    rw (eq-eqb (start .args .checked .fault .number) 0 (wrote .before .before .before .if1 .left)) (refl, wrote .write-rows .ensures)
+    let start = wrote .before .before .before .before .before .before .before .before .before .before .before .before .before .before in
+    rw (eq-eqb (start .args .checked .fault .number) 0 (wrote .before .before .before .before .if1 .left)) (refl, wrote .write-rows .ensures)
 
 pub write-spec : {M : Type 1} → statement M
 write-spec = tie.close (tie.spec refused-requires returns write-rows-requires same-length returns-2)

@@ -18,9 +18,9 @@ use Rattle.wellformed.specs.answers.Check.{tableFault}
 use Rattle.wellformed.proofs.RuleLaws.{table-sound}
 use Rattle.laws.specs.facts.Limits.{maxCpus}
 use Rattle.cpus.specs.answers.Check.{rootFault, regCells, cpuCount, cpuList, countFault, cpuFault, phandlesFault, phandleList}
-use Rattle.cpus.specs.answers.Check.{mpidrList}
+use Rattle.cpus.specs.answers.Check.{regList}
 use Rattle.cpus.specs.declared.RootReading.{RootReading}
-use Rattle.cpus.specs.declared.CpuNumbers.the-variants.{Mpidrs, Phandles}
+use Rattle.cpus.specs.declared.CpuNumbers.the-variants.{Regs, Phandles}
 use Rattle.cpus.proofs.CpuMeans.{cpu-count, count-fits}
 use Rattle.cpumap.specs.declared.MapScan.{MapScan}
 use Rattle.leaves.specs.declared.TreeScan.{TreeScan}
@@ -84,8 +84,8 @@ root-fault c = ap (λ (r : RootReading). r .fault) (c .read-root .ensures)
 clear-root : (c : tie.Else2) → rootFault (b3 c) .number ≡ 0
 clear-root c = ap (λ (f : Fault). f .number) (sym (root-fault (c .before .before))) ∙ c .if2 .left
 
-cells-are : (c : tie.Else2) → Mpidrs (c .before .before .read-root .result .cells) ≡ Mpidrs (regCells (b3 c))
-cells-are c = ap (λ (r : RootReading). Mpidrs (r .cells)) (c .before .before .read-root .ensures)
+cells-are : (c : tie.Else2) → Regs (c .before .before .read-root .result .cells) (b3 c .width) ≡ Regs (regCells (b3 c)) (b3 c .width)
+cells-are c = ap (λ (r : RootReading). Regs (r .cells) (b3 c .width)) (c .before .before .read-root .ensures)
 
 rest-2 : (c : tie.Else2) → surveyFault (b3 c) ≡ fromCount (b3 c)
 rest-2 c = rest-1 (c .before .before .before) ∙ or-second (rootFault (b3 c)) _ (clear-root c)
@@ -160,25 +160,25 @@ module _ (c : tie.After-read-numbers) where
   abbrev kept-9 : tie.Else2
   kept-9 = at-count c .before .before .before .before
 
-  abbrev mpidrs : List ℕ
-  mpidrs = start (at-count c .before) .args .mpidrs .now
+  abbrev regs : List ℕ
+  regs = start (at-count c .before) .args .regs .now
 
-  cpus-listed : take (length mpidrs) (take (count wholes) (array wholes)) ≡ cpuList (b5 c)
-  cpus-listed = all-listed wholes (length mpidrs) (omega (arith, c .before .read-numbers-arg .given .0 .1))
+  cpus-listed : take (length regs) (take (count wholes) (array wholes)) ≡ cpuList (b5 c)
+  cpus-listed = all-listed wholes (length regs) (omega (arith, c .before .read-numbers-arg .given .0 .1))
 
-  mpidr-fault : c .read-numbers .result ≡ cpuFault (b5 c)
-  mpidr-fault = c .read-numbers .ensures .0 ∙ numbers-stage (b5 c) well-5 (indexed .index-properties .ensures .0) cpus-listed (cells-are kept-9) 13
+  reg-fault : c .read-numbers .result ≡ cpuFault (b5 c)
+  reg-fault = c .read-numbers .ensures .0 ∙ numbers-stage (b5 c) well-5 (indexed .index-properties .ensures .0) cpus-listed (cells-are kept-9) 13
 
-  mpidrs-laid : cpuFault (b5 c) .number ≡ 0 → c .read-numbers .last .1 .1 .1 .1 .1 .0 ≡ laidOver (mpidrList (b5 c)) mpidrs
-  mpidrs-laid z =
+  regs-laid : cpuFault (b5 c) .number ≡ 0 → c .read-numbers .last .1 .1 .1 .1 .1 .0 ≡ laidOver (regList (b5 c)) regs
+  regs-laid z =
       c .read-numbers .ensures .1
       ∙ numbers-found (b5 c) well-5 (indexed .index-properties .ensures .0) cpus-listed (cells-are kept-9) 13 _ z
 
-clear-mpidrs : (c : tie.Else4) → cpuFault (b5 (c .before .before)) .number ≡ 0
-clear-mpidrs c = ap (λ (f : Fault). f .number) (sym (mpidr-fault (c .before .before))) ∙ c .if4 .left
+clear-regs : (c : tie.Else4) → cpuFault (b5 (c .before .before)) .number ≡ 0
+clear-regs c = ap (λ (f : Fault). f .number) (sym (reg-fault (c .before .before))) ∙ c .if4 .left
 
 rest-4 : (c : tie.Else4) → surveyFault (b5 (c .before .before)) ≡ fromMap (b5 (c .before .before))
-rest-4 c = rest-3 (at-count (c .before .before)) ∙ or-second (cpuFault (b5 (c .before .before))) _ (clear-mpidrs c)
+rest-4 c = rest-3 (at-count (c .before .before)) ∙ or-second (cpuFault (b5 (c .before .before))) _ (clear-regs c)
 
 -- rules 15 and 16
 map-fault : (c : tie.After-find-map) → c .find-map .result .fault ≡ mapStage (b6 c)
@@ -343,7 +343,7 @@ stop-requires-4 c κs = search needs
 returns-4 : tie.Need-returns-4
 returns-4 c =
     let call = c .before .before .before in
-    tells-first (b5 call) (cpuFault (b5 call)) _ (rest-3 (at-count call)) (c .stop4 .ensures) (c .before .if4 .taken) (mpidr-fault call)
+    tells-first (b5 call) (cpuFault (b5 call)) _ (rest-3 (at-count call)) (c .stop4 .ensures) (c .before .if4 .taken) (reg-fault call)
 
 find-map-requires : tie.Need-find-map-requires
 find-map-requires c κs = search needs
@@ -400,7 +400,7 @@ returns-8 c =
     (leaf-count c)
     (record {
       cpus-laid = cpus-laid (at-count first .before);
-      mpidrs-laid = mpidrs-laid first (clear-mpidrs (found (call c) .before));
+      regs-laid = regs-laid first (clear-regs (found (call c) .before));
       leaves-laid = leaves-laid c;
       named-laid = named-laid c;
     })

@@ -54,8 +54,8 @@ find-indexed-requires-3 c κs = search needs
 value-in-requires : tie.Need-value-in-requires
 value-in-requires c κs = search needs
 
-affine-only-requires : tie.Need-affine-only-requires
-affine-only-requires c κs = search needs
+reg-in-requires : tie.Need-reg-in-requires
+reg-in-requires c κs = search needs
 
 number-or-requires-2 : tie.Need-number-or-requires-2
 number-or-requires-2 c κs = search needs
@@ -73,7 +73,7 @@ returns-2 c =
       sym (test .before .is-number .ensures) ∙ test .if1 .taken,
       ← value .before .find-indexed3 .ensures .0,
       ← value .value-in .ensures,
-      ← c .before .affine-only .ensures,
+      ← c .before .reg-in .ensures,
     ) (c .number-or2 .ensures)
 
 record-of-requires-2 : tie.Need-record-of-requires-2
@@ -109,7 +109,7 @@ read-record-spec =
     is-number-requires
     find-indexed-requires-3
     value-in-requires
-    affine-only-requires
+    reg-in-requires
     number-or-requires-2
     returns-2
     record-of-requires-2

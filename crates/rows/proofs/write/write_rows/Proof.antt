@@ -17,15 +17,15 @@ use Rattle.rows.proofs.write.write_rows.Statement.{statement}
 use Rattle.rows.proofs.write.write_rows.Tie as tie
 
 abbrev Inv-loop : tie.InvT-loop
-Inv-loop rows₀ nodes pool cpus mpidrs leaves named hash count above₀ k₀ rows above k =
+Inv-loop rows₀ nodes pool cpus regs leaves named slots count above₀ k₀ rows above k =
     (k ≤ count)
     × (rowSize * count ≤ length rows₀)
     × (length rows ≡ length rows₀)
-    × (rows ≡ rowsBelow (source nodes pool cpus mpidrs leaves named hash) k ++ drop (rowSize * k) rows₀)
+    × (rows ≡ rowsBelow (source nodes pool cpus regs leaves named slots) k ++ drop (rowSize * k) rows₀)
     × (above ≡ placed nodes pool (above .node))
 
 abbrev μ-loop : tie.MeasureT-loop
-μ-loop rows₀ nodes pool cpus mpidrs leaves named hash count above₀ k₀ rows above k = count - k
+μ-loop rows₀ nodes pool cpus regs leaves named slots count above₀ k₀ rows above k = count - k
 
 -- the start, and what the rows are made of
 abbrev begun : tie.At-loop Inv-loop μ-loop → tie.Start Inv-loop μ-loop
@@ -34,7 +34,7 @@ begun c = c .before .before .before .before .before .before .before .before .bef
 abbrev from : tie.At-loop Inv-loop μ-loop → Source
 from c =
     let a = begun c .args in
-    source (a .nodes .now) (a .pool .now) (a .cpus .now) (a .mpidrs .now) (a .leaves .now) (a .named .now) (a .hash)
+    source (a .nodes .now) (a .pool .now) (a .cpus .now) (a .regs .now) (a .leaves .now) (a .named .now) (a .slots)
 
 -- the turn in which a row is made
 abbrev turn : tie.After-row-of Inv-loop μ-loop → tie.In-loop Inv-loop μ-loop

@@ -9,7 +9,7 @@ use Rattle.laws.specs.facts.Limits.{maxTableBits}
 use Rattle.layout.specs.facts.Row.{slotAt}
 use Rattle.slot_table.specs.answers.Table.{entriesFault, blank, filled}
 use Rattle.slot_table.proofs.FaultLaws.{size-exact, entries-clear, entries-sound}
-use Rattle.slot_table.proofs.TableLaws.{slot-table}
+use Rattle.slot_table.proofs.TableLaws.{slot-table, table-found}
 use Rattle.slot_table.proofs.fill.fill_table.Statement.{statement}
 use Rattle.slot_table.proofs.fill.fill_table.Tie as tie
 
@@ -61,7 +61,8 @@ returns-2 c =
     let a = start e .args in
     let blanked = marked .mark-gaps .ensures ∙ ap (λ (n : ℕ). blank n (a .table .now)) (size-is e) in
     let is = rw (size-is e, blanked) at (entered .enter-rows .ensures) in
-    (rw (eq-eqb _ 0 (clear e)) is, λ _ rows. rw is (slot-table (slotAt (a .rows .now)) _ _ (a .table .now) (fits e .1) rows))
+    let table = slot-table (slotAt (a .rows .now)) _ _ (a .table .now) (fits e .1) in
+    (rw (eq-eqb _ 0 (clear e)) is, λ _ few. rw is (table few, table-found (table few)))
 
 pub fill-table-spec : {M : Type 1} → statement M
 fill-table-spec =
