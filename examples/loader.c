@@ -1,9 +1,11 @@
 /*
  * A loader in C: reads a flattened devicetree from a file with the two calls that take and write bytes only. It prints the answer and the
  * rows, with the columns of `sunderwath -p` and record numbers in place of names; then the slot that sunderwath_slot tells of each row's
- * MPIDR, which has to be that of the row. A board that is refused is told in words.
+ * MPIDR, which has to be that of the row. A RISC-V board has hart ids and no slots. A board that is refused is told in words.
  *
- *   gcc -Iinclude examples/loader.c include/sunderwath_text.c target/staticlib/libsunderwath.a -o loader && ./loader board.dtb [WIDTH]
+ *   gcc -Iinclude examples/loader.c include/sunderwath_text.c target/staticlib/libsunderwath.a -o loader && ./loader board.dtb [BOARD]
+ *
+ * BOARD is the board number: 64 (which it is without one), 32 or, for RISC-V, 5.
  *
  * Exit status: 0 accepted, 1 refused, 2 wrong usage or a file that cannot be read, 3 the two calls do not keep what the header says.
  */
@@ -59,14 +61,14 @@ static int untouched(const uint8_t *bytes, size_t count)
 }
 
 /* With a byte too few for the answer both calls tell 49 and write nothing. */
-static int short_answers(uint32_t width, size_t bytes)
+static int short_answers(uint32_t board, size_t bytes)
 {
     uint8_t answer[SUNDERWATH_BYTES_ANSWER];
     size_t room = sizeof answer - 1;
 
     memset(answer, 0xA5, sizeof answer);
     memset(rows, 0xA5, sizeof rows);
-    if (sunderwath_read_blob(width, blob, bytes, rows, sizeof rows, answer, room) != SUNDERWATH_ANSWER_SPACE)
+    if (sunderwath_read_blob(board, blob, bytes, rows, sizeof rows, answer, room) != SUNDERWATH_ANSWER_SPACE)
         return broken("sunderwath_read_blob does not tell 49 of an answer of 15 bytes");
     if (sunderwath_slot(0, list, SUNDERWATH_MPIDR_BYTES, answer, room) != SUNDERWATH_ANSWER_SPACE)
         return broken("sunderwath_slot does not tell 49 of an answer of 15 bytes");
@@ -88,12 +90,21 @@ static void print_answer(const uint8_t *answer)
     printf("count=%u\n", (unsigned)word(answer + SUNDERWATH_BYTES_COUNT));
 }
 
-/* A number and a comma; nothing before the comma where the map has no number. */
-static void print_or_gap(uint32_t number)
+/* A number and what follows it; the number is left out where it is a gap. */
+static void print_or_gap(uint32_t number, const char *end)
 {
     if (number != SUNDERWATH_GAP)
         printf("%u", (unsigned)number);
-    printf(",");
+    printf("%s", end);
+}
+
+/* An MPIDR in hexadecimal; on a RISC-V board the hart id, in decimal. */
+static void print_id(uint32_t board, uint32_t number)
+{
+    if (board == SUNDERWATH_RISCV)
+        printf("%u,", (unsigned)row_word(number, SUNDERWATH_ROW_HART));
+    else
+        printf("0x%llx,", (unsigned long long)mpidr(number));
 }
 
 /* The numbers of nested clusters, outermost first, as in 0/1. */
@@ -109,15 +120,26 @@ static void print_clusters(uint32_t number)
     printf(",");
 }
 
-static void print_row(uint32_t number)
+/* Every word is a slot, but on a RISC-V board a gap. */
+static void print_slot(uint32_t board, uint32_t number)
+{
+    uint32_t slot = row_word(number, SUNDERWATH_ROW_SLOT);
+
+    if (board == SUNDERWATH_RISCV)
+        print_or_gap(slot, "\n");
+    else
+        printf("%u\n", (unsigned)slot);
+}
+
+static void print_row(uint32_t board, uint32_t number)
 {
     printf("%u,%u,", (unsigned)row_word(number, SUNDERWATH_ROW_LEAF), (unsigned)row_word(number, SUNDERWATH_ROW_CPU));
-    printf("0x%llx,", (unsigned long long)mpidr(number));
-    print_or_gap(row_word(number, SUNDERWATH_ROW_SOCKET));
+    print_id(board, number);
+    print_or_gap(row_word(number, SUNDERWATH_ROW_SOCKET), ",");
     print_clusters(number);
     printf("%u,", (unsigned)row_word(number, SUNDERWATH_ROW_CORE));
-    print_or_gap(row_word(number, SUNDERWATH_ROW_THREAD));
-    printf("%u\n", (unsigned)row_word(number, SUNDERWATH_ROW_SLOT));
+    print_or_gap(row_word(number, SUNDERWATH_ROW_THREAD), ",");
+    print_slot(board, number);
 }
 
 /* All MPIDRs as bytes, eight each, the lowest first. */
@@ -160,36 +182,36 @@ static int refused(const uint8_t *answer)
     return REFUSED;
 }
 
-static int accepted(uint32_t count)
+static int accepted(uint32_t board, uint32_t count)
 {
     uint32_t number;
 
     if (count > SUNDERWATH_MAX_CPUS || !untouched(row(count), SUNDERWATH_ROW_BYTES * (size_t)(SUNDERWATH_MAX_CPUS - count)))
         return broken("something is written behind the last row");
-    printf("# leaf,cpu,mpidr,socket,cluster,core,thread,slot\n");
+    printf("# leaf,cpu,%s,socket,cluster,core,thread,slot\n", board == SUNDERWATH_RISCV ? "hart" : "mpidr");
     for (number = 0; number < count; number++)
-        print_row(number);
-    return print_slots(count);
+        print_row(board, number);
+    return board == SUNDERWATH_RISCV ? ACCEPTED : print_slots(count);
 }
 
-static int load(uint32_t width, size_t bytes)
+static int load(uint32_t board, size_t bytes)
 {
     uint8_t answer[SUNDERWATH_BYTES_ANSWER];
-    uint32_t told = sunderwath_read_blob(width, blob, bytes, rows, sizeof rows, answer, sizeof answer);
+    uint32_t told = sunderwath_read_blob(board, blob, bytes, rows, sizeof rows, answer, sizeof answer);
 
     if (told != word(answer + SUNDERWATH_BYTES_NUMBER))
         return broken("the number that is returned is not that of the answer");
     print_answer(answer);
-    return told == SUNDERWATH_ACCEPTED ? accepted(word(answer + SUNDERWATH_BYTES_COUNT)) : refused(answer);
+    return told == SUNDERWATH_ACCEPTED ? accepted(board, word(answer + SUNDERWATH_BYTES_COUNT)) : refused(answer);
 }
 
-/* Any number is lent to the call, which tells 1 of a width that it does not know. */
-static int read_width(const char *text, uint32_t *width)
+/* Any number is lent to the call, which tells 1 of a board that it does not know. */
+static int read_board(const char *text, uint32_t *board)
 {
     char *end;
     unsigned long value = strtoul(text, &end, 10);
 
-    *width = (uint32_t)value;
+    *board = (uint32_t)value;
     return *text >= '0' && *text <= '9' && *end == '\0' && value <= 0xFFFFFFFFu;
 }
 
@@ -208,18 +230,18 @@ static int read_file(const char *name, size_t *bytes)
 
 int main(int count, char **arguments)
 {
-    uint32_t width = 64;
+    uint32_t board = SUNDERWATH_ARM64;
     size_t bytes = 0;
     int status;
 
-    if (count < 2 || count > 3 || (count == 3 && !read_width(arguments[2], &width))) {
-        fprintf(stderr, "usage: loader FILE.dtb [WIDTH]\n");
+    if (count < 2 || count > 3 || (count == 3 && !read_board(arguments[2], &board))) {
+        fprintf(stderr, "usage: loader FILE.dtb [BOARD]\n");
         return UNREADABLE;
     }
     if (!read_file(arguments[1], &bytes)) {
         fprintf(stderr, "loader: cannot read %s\n", arguments[1]);
         return UNREADABLE;
     }
-    status = short_answers(width, bytes);
-    return status == ACCEPTED ? load(width, bytes) : status;
+    status = short_answers(board, bytes);
+    return status == ACCEPTED ? load(board, bytes) : status;
 }

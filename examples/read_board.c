@@ -50,7 +50,7 @@ static void refused(const uint32_t *answer)
 static void show(void)
 {
     uint32_t rows[2 * SUNDERWATH_ROW_WORDS], answer[SUNDERWATH_ANSWER_WORDS];
-    uint32_t number = sunderwath_read_tables(64, nodes, sizeof nodes / 4, props, sizeof props / 4,
+    uint32_t number = sunderwath_read_tables(SUNDERWATH_ARM64, nodes, sizeof nodes / 4, props, sizeof props / 4,
                                              (const uint8_t *)pool, POOL, rows, sizeof rows / 4, answer, sizeof answer / 4);
     uint32_t k;
 

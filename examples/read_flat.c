@@ -1,10 +1,11 @@
 /*
  * Reads a flattened devicetree from a file and prints the rows of its processors: the blob into tables, and the tables, with the blob as
- * their pool, into rows.
+ * their pool, into rows. BOARD is the board number: 64 (which it is without one), 32 or, for RISC-V, 5.
  *
- *   gcc -Iinclude examples/read_flat.c target/staticlib/libsunderwath.a -o read_flat && ./read_flat board.dtb
+ *   gcc -Iinclude examples/read_flat.c target/staticlib/libsunderwath.a -o read_flat && ./read_flat board.dtb [BOARD]
  */
 #include <stdio.h>
+#include <stdlib.h>
 
 #include "sunderwath.h"
 
@@ -32,15 +33,26 @@ static unsigned long long mpidr(const uint32_t *row)
     return (unsigned long long)row[SUNDERWATH_ROW_MPIDR_UPPER] << 32 | row[SUNDERWATH_ROW_MPIDR_LOWER];
 }
 
+/* A RISC-V board has hart ids and no slots. */
+static void print_row(uint32_t board, const uint32_t *row)
+{
+    printf("leaf %u, cpu %u, ", (unsigned)row[SUNDERWATH_ROW_LEAF], (unsigned)row[SUNDERWATH_ROW_CPU]);
+    if (board == SUNDERWATH_RISCV)
+        printf("hart %u\n", (unsigned)row[SUNDERWATH_ROW_HART]);
+    else
+        printf("mpidr 0x%llx, slot %u\n", mpidr(row), (unsigned)row[SUNDERWATH_ROW_SLOT]);
+}
+
 int main(int count, char **arguments)
 {
     uint32_t flat[SUNDERWATH_FLAT_ANSWER_WORDS], answer[SUNDERWATH_ANSWER_WORDS];
-    FILE *file = count == 2 ? fopen(arguments[1], "rb") : NULL;
+    uint32_t board = count == 3 ? (uint32_t)strtoul(arguments[2], NULL, 10) : SUNDERWATH_ARM64;
+    FILE *file = count == 2 || count == 3 ? fopen(arguments[1], "rb") : NULL;
     size_t bytes;
     uint32_t k;
 
     if (!file) {
-        fprintf(stderr, "usage: read_flat FILE.dtb\n");
+        fprintf(stderr, "usage: read_flat FILE.dtb [BOARD]\n");
         return 2;
     }
     bytes = fread(blob, 1, sizeof blob, file);
@@ -50,14 +62,11 @@ int main(int count, char **arguments)
         return refused(flat, SUNDERWATH_NO_PROPERTY);
     printf("%u nodes, %u properties\n", (unsigned)flat[SUNDERWATH_FLAT_NODES], (unsigned)flat[SUNDERWATH_FLAT_PROPERTIES]);
 
-    if (sunderwath_read_tables(64, nodes, SUNDERWATH_NODE_WORDS * flat[SUNDERWATH_FLAT_NODES], props,
+    if (sunderwath_read_tables(board, nodes, SUNDERWATH_NODE_WORDS * flat[SUNDERWATH_FLAT_NODES], props,
                                SUNDERWATH_PROPERTY_WORDS * flat[SUNDERWATH_FLAT_PROPERTIES], blob, bytes, rows, sizeof rows / 4, answer,
                                sizeof answer / 4) != 0)
         return refused(answer, answer[SUNDERWATH_ANSWER_SECOND]);
-    for (k = 0; k < answer[SUNDERWATH_ANSWER_COUNT]; k++) {
-        const uint32_t *row = rows + SUNDERWATH_ROW_WORDS * k;
-        printf("leaf %u, cpu %u, mpidr 0x%llx, slot %u\n", (unsigned)row[SUNDERWATH_ROW_LEAF], (unsigned)row[SUNDERWATH_ROW_CPU], mpidr(row),
-               (unsigned)row[SUNDERWATH_ROW_SLOT]);
-    }
+    for (k = 0; k < answer[SUNDERWATH_ANSWER_COUNT]; k++)
+        print_row(board, rows + SUNDERWATH_ROW_WORDS * k);
     return 0;
 }

@@ -97,8 +97,8 @@ int main(void)
     static const uint64_t waking[] = { 0x80000000, 0x80000001, 0x80000100, 0x80000101, 0x80010001 };
     size_t k;
 
-    if (sunderwath_read_tables_slots(64, nodes, sizeof nodes / 4, props, sizeof props / 4, (const uint8_t *)pool, POOL, rows,
-                                     sizeof rows / 4, table, sizeof table / 4, answer, sizeof answer / 4) != 0) {
+    if (sunderwath_read_tables_slots(SUNDERWATH_ARM64, nodes, sizeof nodes / 4, props, sizeof props / 4, (const uint8_t *)pool, POOL,
+                                     rows, sizeof rows / 4, table, sizeof table / 4, answer, sizeof answer / 4) != 0) {
         printf("refused: rule %u at record %u\n", (unsigned)answer[SUNDERWATH_ANSWER_NUMBER], (unsigned)answer[SUNDERWATH_ANSWER_PLACE]);
         return 1;
     }

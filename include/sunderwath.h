@@ -1,15 +1,17 @@
 /*
- * sunderwath.h - read the processor topology of an ARM board
+ * sunderwath.h - read the processor topology of an ARM or RISC-V board
  *
  * The library takes the /cpus subtree of a devicetree as plain tables, checks
  * it against the cpu and cpu-map bindings, and writes one row for each
  * processor: its place in the map, its MPIDR and its slot in a collision-free
- * hash of all MPIDRs. Beside the rows it can fill a table from slot to row. It
- * fills the tables of a /cpus subtree from a flattened devicetree, too.
+ * hash of all MPIDRs; on a RISC-V board its place and its hart id, as there are
+ * no MPIDRs and no slots. Beside the rows it can fill a table from slot to row.
+ * It fills the tables of a /cpus subtree from a flattened devicetree, too.
  *
  * A loader that has the blob and a buffer of bytes needs two calls only:
  * sunderwath_read_blob makes rows of a blob, sunderwath_slot tells the slot of
- * an MPIDR. All that they read and write is bytes. examples/loader.c uses them.
+ * an MPIDR; a RISC-V loader needs the first alone. All that they read and write
+ * is bytes. examples/loader.c uses them.
  *
  * WHAT A CALLER OWES, for every function below
  *
@@ -68,6 +70,14 @@ extern "C" {
 #endif
 
 /*
+ * The board numbers: what `width` may be. No board is told from another by its
+ * devicetree; the caller says which one it is.
+ */
+#define SUNDERWATH_ARM32 32 /* ARM v7 or later, 32 bits: MPIDRs of one cell */
+#define SUNDERWATH_ARM64 64 /* ARM v8, 64 bits: MPIDRs of one cell or two */
+#define SUNDERWATH_RISCV 5  /* RISC-V: hart ids of one cell, any value */
+
+/*
  * Words of an answer. Words 0 to 9 are what they were in answers of ten words,
  * which had no second place; a caller that still lends ten gets
  * SUNDERWATH_ANSWER_SPACE and nothing written.
@@ -75,7 +85,8 @@ extern "C" {
 #define SUNDERWATH_ANSWER_WORDS 11
 
 /* Positions of the words of an answer. In a refusal all words but number,
- * place and second place are 0. */
+ * place and second place are 0. An accepted RISC-V board has no hash: its mask
+ * and bits are 0, its shifts 0, 8, 16 and 32. */
 #define SUNDERWATH_ANSWER_NUMBER 0    /* 0 or the number of the rule broken */
 #define SUNDERWATH_ANSWER_PLACE 1     /* where it is broken: see the numbers */
 #define SUNDERWATH_ANSWER_COUNT 2     /* processors; for list_slot the slot */
@@ -131,10 +142,14 @@ extern "C" {
 #define SUNDERWATH_ROW_CLUSTERS 5    /* four cluster numbers, outermost first */
 #define SUNDERWATH_ROW_CORE 9        /* core number */
 #define SUNDERWATH_ROW_THREAD 10     /* thread number or GAP */
-#define SUNDERWATH_ROW_SLOT 11       /* slot; 0xFFFFFFFF is a slot here */
+#define SUNDERWATH_ROW_SLOT 11       /* slot, 0xFFFFFFFF is one; RISC-V: GAP */
 
-/* A number that the map does not have (words 4 to 8 and 10 of a row); in a
- * table of slots, the entry of a slot that no processor has. */
+/* On a RISC-V board, the hart id; word 2 is then 0. */
+#define SUNDERWATH_ROW_HART SUNDERWATH_ROW_MPIDR_LOWER
+
+/* A number that the map does not have (words 4 to 8 and 10 of a row), and the
+ * slot in every row of a RISC-V board; in a table of slots, the entry of a slot
+ * that no processor has. */
 #define SUNDERWATH_GAP 0xFFFFFFFFu
 
 /* Words of a node record: parent, name offset, name length. */
@@ -226,7 +241,7 @@ enum sunderwath_number {
 
     /* ---- the tables ---- */
 
-    /* width not 32 or 64; 0 */
+    /* board number not 32, 64 or 5; 0 */
     SUNDERWATH_BOARD_WIDTH = 1,
     /* node words not whole records, or not 1 to 1,024 of them; 0 */
     SUNDERWATH_NODE_TABLE_SIZE = 2,
@@ -247,8 +262,8 @@ enum sunderwath_number {
 
     /* record 0 is not named cpus; 0 */
     SUNDERWATH_CPUS_NODE = 9,
-    /* #address-cells of record 0 missing, not four bytes, or not 1 or 2 (width
-     * 32: only 1); 0, second place #address-cells */
+    /* #address-cells of record 0 missing, not four bytes, or not 1 or 2
+     * (boards 32 and 5: only 1); 0, second place #address-cells */
     SUNDERWATH_CPUS_ADDRESS_CELLS = 36,
     /* #size-cells of record 0 missing or not four zero bytes; 0, second place
      * #size-cells */
@@ -257,10 +272,10 @@ enum sunderwath_number {
     SUNDERWATH_CPU_COUNT = 10,
     /* device_type is not "cpu"; record, second place device_type */
     SUNDERWATH_CPU_DEVICE_TYPE = 11,
-    /* reg missing, wrong length or bits outside the affinity bits; record,
-     * second place reg */
+    /* reg missing, not four bytes for each address cell or, on boards 32 and
+     * 64, bits outside the affinity bits; record, second place reg */
     SUNDERWATH_CPU_REG = 12,
-    /* reg of an earlier cpu node; record */
+    /* reg (MPIDR or hart id) of an earlier cpu node; record */
     SUNDERWATH_DUPLICATE_CPU_REG = 13,
 
     /* ---- the map ---- */
@@ -295,9 +310,9 @@ enum sunderwath_number {
 
     /* ---- the table of slots (told by sunderwath_read_tables_slots) ---- */
 
-    /* hash of more than 12 bits; 0 */
+    /* hash of more than 12 bits, never on board 5; 0 */
     SUNDERWATH_SLOT_TABLE_BITS = 38,
-    /* table of fewer entries than 2^bits; 0 */
+    /* table of fewer entries than 2^bits, on board 5 of none; 0 */
     SUNDERWATH_SLOT_TABLE_SPACE = 39,
 
     /* ---- lists of MPIDRs ---- */
@@ -354,11 +369,16 @@ uint32_t sunderwath_read_flat(const uint8_t *blob, size_t blob_n,
                               uint32_t *answer, size_t answer_n);
 
 /*
- * Reads a board. `width` is 32 (ARM v7 or later) or 64 (ARM v8). Node record 0
- * is the cpus node; records stand depth first. Tells 1 to 27 and, between 9 and
- * 10, 36 and 37; six of these have a second place. On acceptance the answer's
- * count is the number of processors, and each has its row, in the order of the
- * map. Rows need 12 words for each cpu node.
+ * Reads a board. `width` is its board number: SUNDERWATH_ARM32,
+ * SUNDERWATH_ARM64 or SUNDERWATH_RISCV. Node record 0 is the cpus node; records
+ * stand depth first. Tells 1 to 27 and, between 9 and 10, 36 and 37; six of
+ * these have a second place. On acceptance the answer's count is the number of
+ * processors, and each has its row, in the order of the map. Rows need 12 words
+ * for each cpu node.
+ *
+ * The rules of the map are the same for all boards. On a RISC-V board
+ * #address-cells is 1, reg is a hart id of any value, and only equal ones are
+ * refused; each row has SUNDERWATH_GAP as its slot.
  */
 uint32_t sunderwath_read_tables(uint32_t width,
                                 const uint32_t *nodes, size_t n,
@@ -382,6 +402,9 @@ uint32_t sunderwath_read_tables(uint32_t width,
  * board can fall on a slot that no processor has, or on that of another: before
  * a row is used, its MPIDR is to be compared with the affinity bits (39..32 and
  * 23..0) of the own one. examples/wake_slot.c does all of this.
+ *
+ * A RISC-V board has no slots: one entry is filled, and it is SUNDERWATH_GAP. A
+ * hart finds its row by SUNDERWATH_ROW_HART.
  */
 uint32_t sunderwath_read_tables_slots(uint32_t width,
                                       const uint32_t *nodes, size_t nodes_n,
@@ -393,14 +416,15 @@ uint32_t sunderwath_read_tables_slots(uint32_t width,
 
 /*
  * Reads a board from a flattened devicetree, lent as to sunderwath_read_flat,
- * without tables of the caller: bytes in, bytes out. Tells 31 to 35 first, then
- * 1 and all that sunderwath_read_tables tells of the tables of /cpus, with the
- * same places and second places; records have the numbers that
- * sunderwath_read_flat gives them. 2, 3, 4, 6 and 9 never come up, as no such
- * tables are made of a blob. On acceptance the answer's count is the number of
- * processors, and each has its row in `rows`: SUNDERWATH_ROW_BYTES bytes, word
- * after word. 27 is told by bytes: fewer than SUNDERWATH_ROW_BYTES for each cpu
- * node. A buffer for SUNDERWATH_MAX_CPUS rows is never too short.
+ * without tables of the caller: bytes in, bytes out. `width` is the board
+ * number, as for sunderwath_read_tables. Tells 31 to 35 first, then 1 and all
+ * that sunderwath_read_tables tells of the tables of /cpus, with the same
+ * places and second places; records have the numbers that sunderwath_read_flat
+ * gives them. 2, 3, 4, 6 and 9 never come up, as no such tables are made of a
+ * blob. On acceptance the answer's count is the number of processors, and each
+ * has its row in `rows`: SUNDERWATH_ROW_BYTES bytes, word after word. 27 is
+ * told by bytes: fewer than SUNDERWATH_ROW_BYTES for each cpu node. A buffer
+ * for SUNDERWATH_MAX_CPUS rows is never too short.
  *
  * The tables are on the stack, so there is room for SUNDERWATH_BLOB_MAX_NODES
  * nodes and SUNDERWATH_BLOB_MAX_PROPERTIES properties of /cpus, and 35 is told

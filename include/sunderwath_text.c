@@ -15,7 +15,7 @@ struct message {
 
 static const struct message messages[] = {
     { SUNDERWATH_ACCEPTED, "accepted", "the board is accepted" },
-    { SUNDERWATH_BOARD_WIDTH, "board_width", "the width is neither 32 nor 64" },
+    { SUNDERWATH_BOARD_WIDTH, "board_width", "the board number is not 32, 64 or 5" },
     { SUNDERWATH_NODE_TABLE_SIZE, "node_table_size", "the subtree does not have 1 to 1024 nodes" },
     { SUNDERWATH_PROPERTY_TABLE_SIZE, "property_table_size", "the subtree has more than 4096 properties" },
     { SUNDERWATH_POOL_SIZE, "pool_size", "the pool has more than 65536 bytes" },
@@ -26,7 +26,7 @@ static const struct message messages[] = {
     { SUNDERWATH_CPUS_NODE, "cpus_node", "the node must be named cpus" },
     { SUNDERWATH_CPU_COUNT, "cpu_count", "there must be 1 to 256 cpu nodes, named cpu or cpu@..." },
     { SUNDERWATH_CPU_DEVICE_TYPE, "cpu_device_type", "device_type must be \"cpu\"" },
-    { SUNDERWATH_CPU_REG, "cpu_reg", "reg must have as many cells as #address-cells says, and affinity bits only" },
+    { SUNDERWATH_CPU_REG, "cpu_reg", "reg must have as many cells as #address-cells says and, on ARM, affinity bits only" },
     { SUNDERWATH_DUPLICATE_CPU_REG, "duplicate_cpu_reg", "reg is the same as that of an earlier cpu node" },
     { SUNDERWATH_CPU_MAP_MISSING, "cpu_map_missing", "no cpu-map" },
     { SUNDERWATH_CPU_MAP_DUPLICATE, "cpu_map_duplicate", "another node is named cpu-map" },
@@ -49,7 +49,7 @@ static const struct message messages[] = {
     { SUNDERWATH_BLOB_STRUCTURE, "blob_structure", "the token stream breaks the specification's structure" },
     { SUNDERWATH_BLOB_CPUS, "blob_cpus", "the root must have exactly one child named cpus" },
     { SUNDERWATH_TABLE_SPACE, "table_space", "a table is too short for the records of /cpus" },
-    { SUNDERWATH_CPUS_ADDRESS_CELLS, "cpus_address_cells", "#address-cells must be one cell, with a value that the width allows" },
+    { SUNDERWATH_CPUS_ADDRESS_CELLS, "cpus_address_cells", "#address-cells must be one cell, with a value that the board allows" },
     { SUNDERWATH_CPUS_SIZE_CELLS, "cpus_size_cells", "#size-cells must be one cell, with the value 0" },
     { SUNDERWATH_SLOT_TABLE_BITS, "slot_table_bits", "the hash has more than 12 bits, too many for a table of slots" },
     { SUNDERWATH_SLOT_TABLE_SPACE, "slot_table_space", "the table of slots is too short for the hash" },

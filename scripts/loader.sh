@@ -1,7 +1,7 @@
 #!/usr/bin/env bash
-# examples/loader.c, as C and as C++, beside the command line: on every board of boards/ and for both widths they give the same rows and
-# slots, or refuse it with the same number in the same words. Beside examples/read_flat.c: the same records and places. Then boards at the
-# limits that only the loader's call has.
+# examples/loader.c, as C and as C++, beside the command line: on every board of boards/, read as each kind of board, they give the same
+# rows and slots, or refuse it with the same number in the same words. Beside examples/read_flat.c: the same records and places. Then
+# boards at the limits that only the loader's call has.
 set -euo pipefail
 cd "$(dirname "$0")/.."
 archive=target/staticlib/libsunderwath.a
@@ -24,16 +24,19 @@ build() {
 }
 loaders=(target/c/loader-c99 target/c/loader-c11 target/c/loader-c++11)
 
+# The command line takes a kind of board by its name, the loader by its number.
+declare -A numbers=([arm64]=64 [arm32]=32 [riscv]=5)
+
 # What the loader prints, without comments and without the record numbers of leaf and cpu.
 from_loader() {
     sed -E '/^#/d; s/^[0-9]+,[0-9]+,//' "$1"
 }
 
-# The same lines from the output of `sunderwath -p`: the last six columns of each row, then MPIDR and slot of each.
+# The same lines from the output of `sunderwath -p`: the last six columns of each row, then MPIDR and slot of each, where there are slots.
 from_command() {
     awk -F, '!/^#/ {
         for (k = NF - 5; k <= NF; k++) printf "%s%s", $k, k < NF ? "," : "\n"
-        slots = slots "mpidr " $(NF - 5) ": slot " $NF "\n"
+        if ($NF != "") slots = slots "mpidr " $(NF - 5) ": slot " $NF "\n"
     } END { printf "%s", slots }' "$1"
 }
 
@@ -55,20 +58,20 @@ run() {
     "$@" >"$out/$name.out" 2>"$out/$name.err" || status=$?
 }
 
-# One loader and the command line agree on a blob that the command line has read: FILE WIDTH LOADER
+# One loader and the command line agree on a blob that the command line has read: FILE KIND LOADER
 compare() {
-    run loader "$3" "$1" "$2"
-    [ "$status" -eq "$wanted" ] || fail "$1, width $2: $3 ends with $status, the command line with $wanted: $(cat "$out/loader.err")"
+    run loader "$3" "$1" "${numbers[$2]}"
+    [ "$status" -eq "$wanted" ] || fail "$1, $2: $3 ends with $status, the command line with $wanted: $(cat "$out/loader.err")"
     if [ "$wanted" -eq 0 ]; then
-        diff <(from_command "$out/command.out") <(from_loader "$out/loader.out") || fail "$1, width $2: the rows of $3 differ"
+        diff <(from_command "$out/command.out") <(from_loader "$out/loader.out") || fail "$1, $2: the rows of $3 differ"
     else
-        same_refusal "$1" "$(cat "$out/loader.err")" "$(cat "$out/command.err")" || fail "$1, width $2: $3 refuses it otherwise"
+        same_refusal "$1" "$(cat "$out/loader.err")" "$(cat "$out/command.err")" || fail "$1, $2: $3 refuses it otherwise"
     fi
 }
 
-# All loaders and the command line agree on a blob: FILE WIDTH
+# All loaders and the command line agree on a blob: FILE KIND
 compare_all() {
-    run command "$command" -p --width "$2" "$1"
+    run command "$command" -p --board "$2" "$1"
     wanted=$status
     [ "$wanted" -le 1 ] || fail "$1: the command line ends with $wanted"
     for loader in "${loaders[@]}"; do
@@ -77,38 +80,40 @@ compare_all() {
 }
 
 compare_boards() {
-    local width=$1 accepted=0 refused=0 source blob
+    local kind=$1 accepted=0 refused=0 source blob
     for source in boards/*.dts; do
         blob=$out/$(basename "$source" .dts).dtb
         dtc -q -I dts -O dtb -o "$blob" "$source"
-        compare_all "$blob" "$width"
+        compare_all "$blob" "$kind"
         if [ "$wanted" -eq 0 ]; then accepted=$((accepted + 1)); else refused=$((refused + 1)); fi
     done
-    [ "$accepted" -gt 0 ] && [ "$refused" -gt 0 ] || fail "width $width: $accepted boards accepted, $refused refused"
-    echo "loader: width $width: $accepted boards accepted and $refused refused alike"
+    [ "$accepted" -gt 0 ] && [ "$refused" -gt 0 ] || fail "$kind: $accepted boards accepted, $refused refused"
+    echo "loader: as $kind: $accepted boards accepted and $refused refused alike"
 }
 
-# What the loader prints in the words of examples/read_flat.c: number, place and second place, or leaf, cpu, MPIDR and slot of each row.
+# What the loader prints in the words of examples/read_flat.c: number, place and second place, or leaf, cpu and either MPIDR and slot or
+# hart of each row.
 as_read_flat() {
     sed -nE \
         -e 's/^# number=([1-9][0-9]*) place=([0-9]+) second=none .*/refused: rule \1 at \2/p' \
         -e 's/^# number=([1-9][0-9]*) place=([0-9]+) second=([0-9]+) .*/refused: rule \1 at \2, property \3/p' \
-        -e 's/^([0-9]+),([0-9]+),(0x[0-9a-f]+),.*,([0-9]+)$/leaf \1, cpu \2, mpidr \3, slot \4/p' "$1"
+        -e 's/^([0-9]+),([0-9]+),(0x[0-9a-f]+),.*,([0-9]+)$/leaf \1, cpu \2, mpidr \3, slot \4/p' \
+        -e 's/^([0-9]+),([0-9]+),([0-9]+),.*,$/leaf \1, cpu \2, hart \3/p' "$1"
 }
 
-# examples/read_flat.c lends tables of its own and reads boards of width 64; it names the property after its record.
+# examples/read_flat.c lends tables of its own; it names the property after its record.
 compare_records() {
-    local source blob expected found count=0
+    local kind=$1 source blob expected found count=0
     for source in boards/*.dts; do
         blob=$out/$(basename "$source" .dts).dtb
-        run loader "${loaders[0]}" "$blob"
-        run read_flat target/c/read_flat "$blob"
+        run loader "${loaders[0]}" "$blob" "${numbers[$kind]}"
+        run read_flat target/c/read_flat "$blob" "${numbers[$kind]}"
         expected=$(sed -E '/ nodes, /d; s/ \([^)]*\)$//' "$out/read_flat.out")
         found=$(as_read_flat "$out/loader.out")
-        [ -n "$expected" ] && [ "$found" = "$expected" ] || fail "$blob: expected"$'\n'"$expected"$'\n'"found"$'\n'"$found"
+        [ -n "$expected" ] && [ "$found" = "$expected" ] || fail "$blob, $kind: expected"$'\n'"$expected"$'\n'"found"$'\n'"$found"
         count=$((count + 1))
     done
-    echo "loader: $count boards with the records and places that lent tables give"
+    echo "loader: as $kind: $count boards with the records and places that lent tables give"
 }
 
 # A board of one processor whose /cpus has so many nodes and properties: FILE NODES PROPERTIES
@@ -129,7 +134,7 @@ compare_limits() {
     for size in "1024 6" "5 1024"; do
         blob=$out/${size/ /-}.dtb
         sized "$blob" $size
-        compare_all "$blob" 64
+        compare_all "$blob" arm64
         [ "$wanted" -eq 0 ] || fail "$blob is refused"
     done
     for size in "1025 6 2" "5 1025 0"; do
@@ -146,7 +151,8 @@ compare_limits() {
 }
 
 build
-compare_boards 64
-compare_boards 32
-compare_records
+for kind in arm64 arm32 riscv; do
+    compare_boards "$kind"
+    compare_records "$kind"
+done
 compare_limits

@@ -45,6 +45,7 @@ gcc -std=c11 "${strict[@]}" examples/loader.c include/sunderwath_text.c "$archiv
 rustc -O -L target/staticlib -l static=sunderwath examples/list_slots.rs -o target/c/list_slots
 dtc -q -I dts -O dtb -o target/c/whole-case.dtb boards/whole-case.dts
 dtc -q -I dts -O dtb -o target/c/refused.dtb boards/refused-12-reg.dts
+dtc -q -I dts -O dtb -o target/c/hifive.dtb boards/hifive-unleashed.dts
 {
     target/c/read_board
     target/c/list_slots
@@ -52,6 +53,8 @@ dtc -q -I dts -O dtb -o target/c/refused.dtb boards/refused-12-reg.dts
     target/c/wake_slot
     target/c/loader target/c/whole-case.dtb
     target/c/loader target/c/refused.dtb 2>&1 || echo "exit status $?"
+    target/c/read_flat target/c/hifive.dtb 5
+    target/c/loader target/c/hifive.dtb 5
 } | diff - examples/expected.txt
 took
 

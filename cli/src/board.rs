@@ -1,5 +1,6 @@
 //! The library's call that reads a board, and the board that it accepts.
 
+use crate::kind::Kind;
 use crate::tables::Tables;
 
 pub const ANSWER_WORDS: usize = 11;
@@ -41,18 +42,19 @@ pub struct Refusal {
 pub struct Row {
     pub leaf: u32,
     pub cpu: u32,
-    pub mpidr: u64,
+    /// The MPIDR or, on a RISC-V board, the hart id.
+    pub reg: u64,
     pub socket: Option<u32>,
     pub clusters: Vec<u32>,
     pub core: u32,
     pub thread: Option<u32>,
-    pub slot: u32,
+    pub slot: Option<u32>,
 }
 
 /// What the library answers on acceptance.
 #[derive(Clone, Debug, PartialEq, Eq)]
 pub struct Board {
-    pub width: u32,
+    pub kind: Kind,
     pub mask: u64,
     pub shifts: [u32; 4],
     pub bits: u32,
@@ -67,23 +69,32 @@ fn wide(upper: u32, lower: u32) -> u64 {
     u64::from(upper) << 32 | u64::from(lower)
 }
 
-fn row(words: &[u32]) -> Row {
+/// On a board with MPIDRs every word is a slot; hart ids have none, and their word is a gap.
+fn slot(kind: Kind, word: u32) -> Option<u32> {
+    if kind.has_mpidrs() {
+        Some(word)
+    } else {
+        number_or_none(word)
+    }
+}
+
+fn row(kind: Kind, words: &[u32]) -> Row {
     let path = words[5..9].iter().copied();
     Row {
         leaf: words[0],
         cpu: words[1],
-        mpidr: wide(words[2], words[3]),
+        reg: wide(words[2], words[3]),
         socket: number_or_none(words[4]),
         clusters: path.filter_map(number_or_none).collect(),
         core: words[9],
         thread: number_or_none(words[10]),
-        slot: words[11],
+        slot: slot(kind, words[11]),
     }
 }
 
 /// What a call has told: the number returned, the words of the answer, and the rows.
 pub fn told(
-    width: u32,
+    kind: Kind,
     number: u32,
     answer: &[u32; ANSWER_WORDS],
     rows: &[u32],
@@ -97,17 +108,18 @@ pub fn told(
         });
     }
     let count = answer[2] as usize;
+    let rows = rows.chunks(ROW_WORDS).take(count);
     Ok(Board {
-        width,
+        kind,
         mask: wide(answer[4], answer[3]),
         shifts: [answer[5], answer[6], answer[7], answer[8]],
         bits: answer[9],
-        rows: rows.chunks(ROW_WORDS).take(count).map(row).collect(),
+        rows: rows.map(|words| row(kind, words)).collect(),
     })
 }
 
-/// Reads the tables of a board of the given width.
-pub fn read(width: u32, tables: &Tables) -> Result<Board, Refusal> {
+/// Reads the tables of a board of the given kind.
+pub fn read(kind: Kind, tables: &Tables) -> Result<Board, Refusal> {
     let mut rows = vec![0; MOST_WORDS];
     let mut answer = [0; ANSWER_WORDS];
     let Tables { nodes, props, pool } = tables;
@@ -115,7 +127,7 @@ pub fn read(width: u32, tables: &Tables) -> Result<Board, Refusal> {
     // and the two that are written are borrowed from nothing else.
     let number = unsafe {
         sunderwath_read_tables(
-            width,
+            kind.number(),
             nodes.as_ptr(),
             nodes.len(),
             props.as_ptr(),
@@ -128,5 +140,5 @@ pub fn read(width: u32, tables: &Tables) -> Result<Board, Refusal> {
             answer.len(),
         )
     };
-    told(width, number, &answer, &rows)
+    told(kind, number, &answer, &rows)
 }

@@ -3,6 +3,7 @@
 //! to /cpus, messages, output.
 
 pub mod board;
+pub mod compatible;
 pub mod cut;
 pub mod details;
 pub mod escape;
@@ -10,6 +11,7 @@ pub mod fault;
 pub mod flat;
 pub mod header;
 pub mod input;
+pub mod kind;
 pub mod messages;
 pub mod options;
 pub mod output;

@@ -9,7 +9,7 @@ use sunderwath::flat::{self, Reading};
 use sunderwath::options::{self, Format, Options, Request, USAGE};
 use sunderwath::report::Report;
 use sunderwath::tables::Tables;
-use sunderwath::{input, output, slots};
+use sunderwath::{compatible, input, output, slots};
 
 const REFUSED: u8 = 1;
 const UNREADABLE: u8 = 2;
@@ -69,13 +69,13 @@ fn refuse(options: &Options, report: &Report) -> ExitCode {
 
 /// The text of an accepted board. Only `--slots` needs a table of slots, which not every board has.
 fn text(options: &Options, tables: &Tables) -> Result<String, Refusal> {
-    let board = || board::read(options.width, tables);
+    let board = || board::read(options.kind(), tables);
     Ok(match options.format {
         Format::Table => output::table(tables, &board()?),
         Format::Parsable => output::parsable(tables, &board()?),
         Format::Json => output::json(tables, &board()?),
         Format::Tree => output::tree(tables, &board()?),
-        Format::Slots => output::slots(tables, &slots::read(options.width, tables)?),
+        Format::Slots => output::slots(tables, &slots::read(options.kind(), tables)?),
     })
 }
 
@@ -91,15 +91,19 @@ fn run(options: &Options) -> ExitCode {
         Ok(reading) => reading,
         Err(fault) => return refuse(options, &Report::of_blob(&fault)),
     };
-    if let Some(note) = note {
-        tell(options, &format!("note: {note}"));
+    let other_kind = match options.board {
+        Some(_) => None,
+        None => compatible::note(&tables),
+    };
+    for note in [note, other_kind].into_iter().flatten() {
+        tell(options, &format!("note: {}", for_terminal(&note)));
     }
     match text(options, &tables) {
         Ok(text) => print(&text),
         Err(refusal) => {
             let told = Told {
                 tables: &tables,
-                width: options.width,
+                kind: options.kind(),
                 refusal,
             };
             refuse(options, &Report::of_board(&told))

@@ -84,6 +84,7 @@ impl fmt::Display for Report {
 mod tests {
     use super::*;
     use crate::board::Refusal;
+    use crate::kind::Kind;
     use crate::tables::Tables;
 
     fn of_blob(fault: Fault) -> String {
@@ -108,7 +109,7 @@ mod tests {
     fn of_board(tables: &Tables, number: u32, place: u32) -> Report {
         Report::of_board(&Told {
             tables,
-            width: 64,
+            kind: Kind::Arm64,
             refusal: Refusal {
                 number,
                 place,

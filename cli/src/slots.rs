@@ -1,6 +1,7 @@
 //! The library's call that fills a table from slot to row, and the processor of each slot.
 
 use crate::board::{self, Refusal, Row, ANSWER_WORDS, MOST_WORDS};
+use crate::kind::Kind;
 use crate::tables::Tables;
 
 /// The most bits of a hash that the library fills a table for.
@@ -24,8 +25,8 @@ extern "C" {
     ) -> u32;
 }
 
-/// Reads the tables of a board of the given width: slot after slot, the row of the processor that has it.
-pub fn read(width: u32, tables: &Tables) -> Result<Vec<Option<Row>>, Refusal> {
+/// Reads the tables of a board of the given kind: slot after slot, the row of the processor that has it.
+pub fn read(kind: Kind, tables: &Tables) -> Result<Vec<Option<Row>>, Refusal> {
     let mut rows = vec![0; MOST_WORDS];
     let mut table = vec![0; 1 << MOST_BITS];
     let mut answer = [0; ANSWER_WORDS];
@@ -34,7 +35,7 @@ pub fn read(width: u32, tables: &Tables) -> Result<Vec<Option<Row>>, Refusal> {
     // and the three that are written are borrowed from nothing else.
     let number = unsafe {
         sunderwath_read_tables_slots(
-            width,
+            kind.number(),
             nodes.as_ptr(),
             nodes.len(),
             props.as_ptr(),
@@ -49,7 +50,7 @@ pub fn read(width: u32, tables: &Tables) -> Result<Vec<Option<Row>>, Refusal> {
             answer.len(),
         )
     };
-    let board = board::told(width, number, &answer, &rows)?;
+    let board = board::told(kind, number, &answer, &rows)?;
     let row = |&entry: &u32| board::number_or_none(entry).map(|at| board.rows[at as usize].clone());
     Ok(table[..1 << board.bits].iter().map(row).collect())
 }

@@ -1,5 +1,6 @@
 //! The manual page and the header name what the program has.
 
+use sunderwath::kind::Kind;
 use sunderwath::messages::check_and_sentence;
 use sunderwath::options::USAGE;
 
@@ -15,6 +16,21 @@ fn manual_lists_the_checks() {
     let board = of(1..=9).chain(of(36..=37)).chain(of(10..=27));
     let list: String = of(31..=35).chain(board).chain(of(38..=39)).collect();
     assert!(MANUAL.contains(&list), "{list}");
+}
+
+/// By name and by number, at the options and in the help.
+#[test]
+fn kinds_of_boards() {
+    let names = Kind::ALL.map(Kind::name).join("|");
+    assert!(USAGE.contains(&format!("  -b, --board {names}\n")));
+    let names = names.replace('|', " | ");
+    let option = format!(".BR \\-b \", \" \\-\\-board \" \" {names}\n");
+    assert!(MANUAL.contains(&option), "{option}");
+    let numbers = Kind::ALL.map(|kind| kind.number().to_string()).join("|");
+    assert!(USAGE.contains(&format!("  -w, --width {numbers}\n")));
+    let numbers = numbers.replace('|', " | ");
+    let option = format!(".BR \\-w \", \" \\-\\-width \" \" {numbers}\n");
+    assert!(MANUAL.contains(&option), "{option}");
 }
 
 #[test]

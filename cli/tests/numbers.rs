@@ -1,6 +1,8 @@
-//! The header's enumeration and the texts of include/sunderwath_text.c have the same numbers, and every other number is unknown.
+//! The header's enumeration and the texts of include/sunderwath_text.c have the same numbers, and every other number is unknown. The
+//! header's board numbers are those of the program.
 
 use std::collections::BTreeMap;
+use sunderwath::kind::Kind;
 use sunderwath::messages::check_and_sentence;
 
 const HEADER: &str = include_str!("../../include/sunderwath.h");
@@ -27,6 +29,29 @@ fn enumerators() -> BTreeMap<u32, &'static str> {
     let map = BTreeMap::from_iter(pairs.iter().copied());
     assert_eq!(map.len(), pairs.len(), "two enumerators with one number");
     map
+}
+
+/// What a macro of the header stands for, without its comment.
+fn defined(name: &str) -> &'static str {
+    let rest = between(HEADER, &format!("#define SUNDERWATH_{name} "), "\n");
+    rest.split("/*")
+        .next()
+        .expect("there is a first part")
+        .trim()
+}
+
+#[test]
+fn board_numbers() {
+    for kind in Kind::ALL {
+        let name = kind.name().to_uppercase();
+        assert_eq!(defined(&name), kind.number().to_string());
+    }
+    let sentence = check_and_sentence(1).1;
+    for kind in Kind::ALL {
+        let number = kind.number().to_string();
+        let mut words = sentence.split([' ', ',']);
+        assert!(words.any(|word| word == number), "{sentence}");
+    }
 }
 
 /// The lines of the table: enumerator without the prefix, check name, sentence.

@@ -2,17 +2,20 @@
 
 use super::value::one_cell;
 use super::Told;
+use crate::kind::Kind;
+
+/// The counts that a kind of board allows. ARM boards are named by their width, RISC-V has none.
+fn allowed(kind: Kind) -> String {
+    match kind {
+        Kind::Arm32 => format!("width {} allows 1", kind.number()),
+        Kind::Arm64 => format!("width {} allows 1 or 2", kind.number()),
+        Kind::Riscv => format!("board {} allows 1", kind.name()),
+    }
+}
 
 pub fn address_cells(told: &Told, property: u32) -> String {
-    let allowed = match told.width {
-        32 => "1",
-        _ => "1 or 2",
-    };
     match one_cell(told.tables, property) {
-        Ok(value) => format!(
-            "#address-cells is {value}; width {} allows {allowed}",
-            told.width
-        ),
+        Ok(value) => format!("#address-cells is {value}; {}", allowed(told.kind)),
         Err(length) => length,
     }
 }

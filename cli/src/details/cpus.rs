@@ -2,6 +2,7 @@
 
 use super::value::{counted, number, one_cell, shown};
 use super::Told;
+use crate::kind::Kind;
 use crate::tables::Tables;
 
 pub fn count(tables: &Tables) -> String {
@@ -26,6 +27,7 @@ fn address_cells(tables: &Tables) -> usize {
     value.unwrap_or(0) as usize
 }
 
+/// Of a hart id only the length can be wrong.
 pub fn reg(told: &Told, property: u32) -> String {
     let value = told.tables.value(property);
     let cells = address_cells(told.tables);
@@ -57,7 +59,11 @@ fn earlier_path(told: &Told, cpu: u32) -> String {
 pub fn same_reg(told: &Told) -> Option<String> {
     let value = told.tables.find_value(told.refusal.place, "reg")?;
     let path = earlier_path(told, earlier(told, "reg", value)?);
-    Some(format!("reg {:#x} is that of {path}", number(value)))
+    let id = told.kind.id_text(number(value));
+    Some(match told.kind {
+        Kind::Arm32 | Kind::Arm64 => format!("reg {id} is that of {path}"),
+        Kind::Riscv => format!("hart id {id} is that of {path}"),
+    })
 }
 
 pub fn phandle(told: &Told, property: u32) -> String {

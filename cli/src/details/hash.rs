@@ -5,6 +5,6 @@ use crate::board;
 
 /// The answer of a refusal has no hash, so the board is read again without a table of slots.
 pub fn bits(told: &Told) -> Option<String> {
-    let board = board::read(told.width, told.tables).ok()?;
+    let board = board::read(told.kind, told.tables).ok()?;
     Some(format!("{} bits, mask {:#x}", board.bits, board.mask))
 }

@@ -11,13 +11,14 @@ mod siblings;
 mod value;
 
 use crate::board::Refusal;
+use crate::kind::Kind;
 use crate::tables::Tables;
 use value::counted;
 
 /// A refusal, and the board that it was told of.
 pub struct Told<'a> {
     pub tables: &'a Tables,
-    pub width: u32,
+    pub kind: Kind,
     pub refusal: Refusal,
 }
 
@@ -106,7 +107,7 @@ mod tests {
     fn told(tables: &Tables, number: u32, place: u32, property: Option<u32>) -> Option<String> {
         details(&Told {
             tables,
-            width: 64,
+            kind: Kind::Arm64,
             refusal: Refusal {
                 number,
                 place,

@@ -1,9 +1,10 @@
 //! The sample boards: accepted or refused, and with which words.
 
+use crate::riscv;
 use crate::run::{board, boards, run, text};
 use std::fs;
 
-/// Accepted boards, with the number of processors and the hash line.
+/// Accepted boards with MPIDRs, with the number of processors and the hash line.
 pub const ACCEPTED: [(&str, usize, &str); 10] = [
     (
         "example1",
@@ -41,8 +42,8 @@ pub const ACCEPTED: [(&str, usize, &str); 10] = [
     ),
 ];
 
-/// Refused boards, with number, check name and path.
-pub const REFUSED: [(&str, u32, &str, &str); 25] = [
+/// Boards that are refused as ARM boards of 64 bits, with number, check name and path.
+pub const REFUSED: [(&str, u32, &str, &str); 26] = [
     (
         "example3",
         24,
@@ -70,6 +71,12 @@ pub const REFUSED: [(&str, u32, &str, &str); 25] = [
         13,
         "duplicate_cpu_reg",
         "/cpus/cpu@1",
+    ),
+    (
+        "refused-13-same-hart",
+        13,
+        "duplicate_cpu_reg",
+        "/cpus/cpu@2",
     ),
     ("refused-15-no-map", 15, "cpu_map_missing", "/cpus"),
     (
@@ -150,11 +157,8 @@ pub const REFUSED: [(&str, u32, &str, &str); 25] = [
     ("refused-37-size-cells", 37, "cpus_size_cells", "/cpus"),
 ];
 
-#[test]
-fn every_board_is_listed_here() {
-    let mut listed: Vec<String> = ACCEPTED.iter().map(|b| b.0.to_string()).collect();
-    listed.extend(REFUSED.iter().map(|b| b.0.to_string()));
-    listed.sort();
+/// The names of all sample boards.
+pub fn names() -> Vec<String> {
     let mut found: Vec<String> = fs::read_dir(boards())
         .expect("the folder is there")
         .map(|entry| entry.expect("it can be read").path())
@@ -162,7 +166,19 @@ fn every_board_is_listed_here() {
         .map(|path| path.file_stem().unwrap().to_str().unwrap().to_string())
         .collect();
     found.sort();
-    assert_eq!(listed, found);
+    found
+}
+
+/// Some boards are refused as ARM boards and as RISC-V boards.
+#[test]
+fn every_board_is_listed_here() {
+    let mut listed: Vec<String> = ACCEPTED.iter().map(|b| b.0.to_string()).collect();
+    listed.extend(REFUSED.iter().map(|b| b.0.to_string()));
+    listed.extend(riscv::ACCEPTED.iter().map(|b| b.0.to_string()));
+    listed.extend(riscv::REFUSED.iter().map(|b| b.0.to_string()));
+    listed.sort();
+    listed.dedup();
+    assert_eq!(listed, names());
 }
 
 #[test]
@@ -190,7 +206,7 @@ fn accepted_boards() {
 fn refused_boards() {
     for (name, number, check, path) in REFUSED {
         let file = board(name);
-        let output = run(&[&file]);
+        let output = run(&["--board", "arm64", &file]);
         assert_eq!(output.status.code(), Some(1), "{name}");
         assert_eq!(text(&output.stdout), "");
         let start = format!("{file}: ERROR {number} ({check}): {path}: ");
@@ -204,7 +220,7 @@ fn refused_boards() {
 }
 
 /// What stands there, at the end of the message.
-const DETAILS: [(&str, &str); 18] = [
+const DETAILS: [(&str, &str); 19] = [
     ("example3", "no property cpu (it has cpu0)"),
     (
         "example3-corrected",
@@ -219,6 +235,7 @@ const DETAILS: [(&str, &str); 18] = [
     ),
     ("refused-12-reg", "reg 0x1000000 has bits outside 0xffffff"),
     ("refused-13-same-reg", "reg 0x0 is that of /cpus/cpu@0"),
+    ("refused-13-same-hart", "reg 0x1 is that of /cpus/cpu@1"),
     ("refused-16-second-map", "the map is /cpus/cpu-map"),
     ("refused-17-no-phandle", "no property phandle"),
     ("refused-21-order", "core6, of 6 siblings"),

@@ -54,6 +54,7 @@ hash: mask 0x3, shifts 0 6 14 30, bits 2
     let json = run(&["--json", &board("whole-case")]);
     let expected = r#"{
   "width": 64,
+  "board": "arm64",
   "count": 2,
   "mask": "0x100",
   "shifts": [0, 8, 15, 31],
@@ -104,4 +105,6 @@ fn width_decides_the_cells() {
     let message = text(&output.stderr);
     assert!(message.contains("ERROR 36 (cpus_address_cells): /cpus: "));
     assert!(message.ends_with(" (#address-cells is 2; width 32 allows 1)\n"));
+    let named = run(&["--board", "arm32", &board("example1")]);
+    assert_eq!(named, output);
 }

@@ -43,7 +43,7 @@ fn address_cells_of_width_32() {
     let blob = cpus(2).cpu(0).close().finish();
     let output = run_on_input(&["-w", "32", "-"], &blob);
     let expected = "-: ERROR 36 (cpus_address_cells): /cpus: \
-        #address-cells must be one cell, with a value that the width allows \
+        #address-cells must be one cell, with a value that the board allows \
         (#address-cells is 2; width 32 allows 1)\n";
     assert_eq!(text(&output.stderr), expected);
 }

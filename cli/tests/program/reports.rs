@@ -6,6 +6,7 @@ use crate::run::compiled;
 use sunderwath::board::{self, Refusal};
 use sunderwath::details::Told;
 use sunderwath::flat;
+use sunderwath::kind::Kind;
 use sunderwath::report::Report;
 use sunderwath::slots;
 use sunderwath::tables::Tables;
@@ -35,10 +36,10 @@ fn check_property(tables: &Tables, refusal: Refusal, report: &Report) {
     }
 }
 
-fn check(tables: &Tables, width: u32, refusal: Refusal) {
+fn check(tables: &Tables, kind: Kind, refusal: Refusal) {
     let report = Report::of_board(&Told {
         tables,
-        width,
+        kind,
         refusal,
     });
     let number = refusal.number;
@@ -73,20 +74,21 @@ const WORDS: [u32; 14] = [
     u32::MAX,
 ];
 
-/// Reads the board for both widths, and counts the numbers told.
+/// Reads the board as each kind, and counts the numbers told.
 fn read(blob: Vec<u8>, told: &mut [u32; 50]) {
     let Ok(reading) = flat::read(blob) else {
         return;
     };
-    for width in [32, 64] {
-        let plain = board::read(width, &reading.tables).err();
-        let Err(refusal) = slots::read(width, &reading.tables) else {
+    for kind in Kind::ALL {
+        let plain = board::read(kind, &reading.tables).err();
+        let Err(refusal) = slots::read(kind, &reading.tables) else {
             assert_eq!(plain, None);
             continue;
         };
-        check(&reading.tables, width, refusal);
+        check(&reading.tables, kind, refusal);
         told[refusal.number as usize] += 1;
         assert_eq!(plain, (refusal.number != 38).then_some(refusal));
+        assert!(refusal.number != 38 || kind != Kind::Riscv);
     }
 }
 

@@ -152,6 +152,14 @@ fn counts_of_bits() {
     }
 }
 
+/// The word of a gap is a slot where there are MPIDRs.
+#[test]
+fn highest_slot() {
+    let output = run_on_input(&["-p", "-"], &with_mpidrs(&[0, 0xFF_00FF_FFFF]));
+    let expected = "\ncluster0/core1,cpu@ff00ffffff,0xff00ffffff,,0,1,,4294967295\n";
+    assert!(text(&output.stdout).ends_with(expected));
+}
+
 /// Whatever refuses a board comes before its table of slots, in the same words.
 #[test]
 fn same_refusals() {

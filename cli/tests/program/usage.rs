@@ -4,11 +4,13 @@ use crate::run::{run, text};
 
 #[test]
 fn usage_and_files() {
-    let wrong: [&[&str]; 7] = [
+    let wrong: [&[&str]; 9] = [
         &[],
         &["--slots"],
         &["a.dtb", "b.dtb"],
-        &["--width", "5", "a.dtb"],
+        &["--width", "6", "a.dtb"],
+        &["--board", "5", "a.dtb"],
+        &["--board", "x86", "a.dtb"],
         &["--nonsense", "a.dtb"],
         &["no-such-file.dtb"],
         &["no-such-file.dts"],

@@ -12,7 +12,7 @@ use Rattle.laws.proofs.SearchLaws.{lt-or-le}
 use Rattle.laws.proofs.OrElseLaws.{told-number}
 use Rattle.laws.proofs.RuleStageLaws.{tells-none}
 use Rattle.layout.specs.facts.Row.{rowSize, gap, slotAt}
-use Rattle.slot_table.specs.facts.SlotTable.{SlotTable, Found}
+use Rattle.slot_table.specs.facts.SlotTable.{SlotTable, RowsFound}
 use Rattle.slot_table.specs.answers.Table.{entriesFault}
 use Rattle.slot_table.proofs.FaultLaws.{entries-sound}
 use Rattle.slot_table.proofs.TableLaws.{filled-table, table-found, one-gap}
@@ -111,7 +111,7 @@ module _ {b : Board} (sized : WordSized b) (rows table : List ℕ) where
         few)
 
     -- MPIDRs have slots of their own
-    found : HasMpidrs b → Found (slotAt rowsThen) (answer .count) (2 ^ (answer .hash .bits)) (slotsTable b rows table)
+    found : HasMpidrs b → RowsFound (slotAt rowsThen) (answer .count) (2 ^ (answer .hash .bits)) (slotsTable b rows table)
     found has = table-found tabled (record { distinct = reading .distinct has; bounded = reading .bounded has })
 
     -- hart ids have none, and the hash no bits

@@ -15,7 +15,7 @@ use borrow.Author.Tests.{lt-ltb, le-ltb, ltb-true, eq-eqb}
 use Rattle.laws.proofs.BlockLaws.{block-front}
 use Rattle.laws.proofs.DecideLaws.{decided, eq-decides}
 use Rattle.layout.specs.facts.Row.{rowSize, gap, rowSlot, slotAt}
-use Rattle.slot_table.specs.facts.SlotTable.{SlotTableRule, SlotTable, Found, Slotted}
+use Rattle.slot_table.specs.facts.SlotTable.{SlotTableRule, SlotTable, RowsFound, Slotted}
 use Rattle.slot_table.specs.answers.Table.{blank, enteredBelow, filled}
 use Rattle.slot_table.proofs.FaultLaws.{entries-clear, entries-sound}
 
@@ -163,7 +163,7 @@ pub table-found :
     {slot : ℕ → ℕ} {count size : ℕ} {before after : List ℕ} →
     SlotTable slot count size before after →
     Slotted slot count size →
-    Found slot count size after
+    RowsFound slot count size after
 table-found {slot} {count} {size} {before} {after} h rows k lt =
     let in-size = rows .bounded k lt in
     let row = h .named (slot k) in-size (λ e. h .gaps (slot k) in-size .0 e k lt refl) in

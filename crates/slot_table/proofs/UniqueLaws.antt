@@ -9,12 +9,12 @@ use lib.Seq.{getD-drop, ext-getD}
 use Rattle.laws.proofs.SearchLaws.{lt-or-le}
 use Rattle.laws.proofs.DecideLaws.{decided, eq-decides}
 use Rattle.layout.specs.facts.Row.{gap}
-use Rattle.slot_table.specs.facts.SlotTable.{SlotTable, Found}
+use Rattle.slot_table.specs.facts.SlotTable.{SlotTable, RowsFound}
 
 module _ {slot : ℕ → ℕ} {count size : ℕ} {before : List ℕ} where
   -- an entry that names a row is the same in both
   same-row :
-      {x : List ℕ} (y : List ℕ) → SlotTable slot count size before x → Found slot count size y →
+      {x : List ℕ} (y : List ℕ) → SlotTable slot count size before x → RowsFound slot count size y →
       (s : ℕ) → s < size → (getD x s 0 ≡ gap → ⊥) → getD y s 0 ≡ getD x s 0
   same-row {x} y h g s lt ne =
       let row = h .named s lt ne in
@@ -22,8 +22,8 @@ module _ {slot : ℕ → ℕ} {count size : ℕ} {before : List ℕ} where
 
   pub slot-table-unique :
       {x y : List ℕ} →
-      SlotTable slot count size before x → Found slot count size x →
-      SlotTable slot count size before y → Found slot count size y →
+      SlotTable slot count size before x → RowsFound slot count size x →
+      SlotTable slot count size before y → RowsFound slot count size y →
       x ≡ y
   slot-table-unique {x} {y} h found-x g found-y = ext-getD 0 x y (h .kept ∙ sym (g .kept)) (λ i _. ⊎-elim (inside i) (behind i) (lt-or-le i size))
     where

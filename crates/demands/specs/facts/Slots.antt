@@ -4,7 +4,7 @@ use mathlib.Core.List.{List, _∷_}
 use Prim.Native.Nat.{ℕ, _^_}
 use lib.ListN.{length, drop}
 use Rattle.layout.specs.facts.Row.{gap, slotAt}
-use Rattle.slot_table.specs.facts.SlotTable.{SlotTableRule, SlotTable, Found}
+use Rattle.slot_table.specs.facts.SlotTable.{SlotTableRule, SlotTable, RowsFound}
 use Rattle.affinity.specs.declared.Hash.{Hash}
 use Rattle.tables.specs.facts.Board.{Board, riscv, HasMpidrs}
 use Rattle.rows.specs.facts.BoardHash.{BoardHash}
@@ -32,5 +32,5 @@ pub record SlotTableDemands (b : Board) (rows table : List ℕ) (answer : BoardA
   -- an acceptance: two to the bit count entries, from slots to rows
   pub tabled : answer .number ≡ 0 → SlotTable (slotAt rowsAfter) (answer .count) (2 ^ (answer .hash .bits)) table tableAfter
   -- each row is found from the slot of its MPIDR; a RISC-V board has one entry, GAP (02, W7)
-  pub found : answer .number ≡ 0 → HasMpidrs b → Found (slotAt rowsAfter) (answer .count) (2 ^ (answer .hash .bits)) tableAfter
+  pub found : answer .number ≡ 0 → HasMpidrs b → RowsFound (slotAt rowsAfter) (answer .count) (2 ^ (answer .hash .bits)) tableAfter
   pub no-slots : answer .number ≡ 0 → b .width ≡ riscv → tableAfter ≡ gap ∷ drop 1 table

@@ -24,8 +24,8 @@ pub record SlotTable (slot : ℕ → ℕ) (count size : ℕ) (before after : Lis
   pub kept : length after ≡ length before
 
 -- each row is found from its slot
-abbrev pub Found : (slot : ℕ → ℕ) (count size : ℕ) (table : List ℕ) → Type 0
-Found slot count size table = (k : ℕ) → k < count → (slot k < size) × (getD table (slot k) 0 ≡ k)
+abbrev pub RowsFound : (slot : ℕ → ℕ) (count size : ℕ) (table : List ℕ) → Type 0
+RowsFound slot count size table = (k : ℕ) → k < count → (slot k < size) × (getD table (slot k) 0 ≡ k)
 
 -- rows that a table can tell apart: no two have one slot, and each slot is below the size
 pub record Slotted (slot : ℕ → ℕ) (count size : ℕ) : Type 0 where
@@ -39,4 +39,4 @@ Tabled rows bits before after =
     ((n p : ℕ) → SlotTableRule bits (length before) n p → ⊥) →
     count ≤ gap →
     SlotTable (slotAt rows) count (2 ^ bits) before after
-    × (Slotted (slotAt rows) count (2 ^ bits) → Found (slotAt rows) count (2 ^ bits) after)
+    × (Slotted (slotAt rows) count (2 ^ bits) → RowsFound (slotAt rows) count (2 ^ bits) after)
