@@ -17,6 +17,11 @@
 #define ROWS (CPUS * SUNDERWATH_ROW_WORDS)
 #define GAP SUNDERWATH_GAP
 #define NONE SUNDERWATH_NONE
+#define WRONG_WIDTH 33
+
+/* Property records of the whole case: `reg` of the cpus at records 5 and 6. */
+#define REG_OF_5 5
+#define REG_OF_6 8
 
 struct board {
     uint32_t width;
@@ -77,11 +82,14 @@ static inline void add_cell(struct board *board, uint32_t node,
     add_prop(board, node, name, cell, sizeof cell);
 }
 
-/* Width 64, with records 0 to 2: `cpus`, `cpu-map` and `cluster0`. */
+/* The board number of what is built. */
+static uint32_t board_width = SUNDERWATH_ARM64;
+
+/* With records 0 to 2: `cpus`, `cpu-map` and `cluster0`. */
 static inline void start_board(struct board *board)
 {
     memset(board, 0, sizeof *board);
-    board->width = 64;
+    board->width = board_width;
     add_node(board, NONE, "cpus");
     add_node(board, 0, "cpu-map");
     add_node(board, 1, "cluster0");
@@ -105,6 +113,40 @@ static inline void whole_case(struct board *board)
     add_cell(board, 6, "reg", 0x100);
     add_cell(board, 6, "phandle", 2);
 }
+
+/* The whole case as a board of a width, with other values of reg: that of the
+ * cpu of row 0 and that of row 1's. */
+static inline void whole_case_of(struct board *board, uint32_t width,
+                                 uint32_t row_0, uint32_t row_1)
+{
+    whole_case(board);
+    board->width = width;
+    set_cell(board->pool + board->props[5 * REG_OF_6 + 3], row_0);
+    set_cell(board->pool + board->props[5 * REG_OF_5 + 3], row_1);
+}
+
+/* The rows of the whole case as a RISC-V board with these hart ids. */
+static inline void rows_of_harts(uint32_t rows[ROWS], uint32_t row_0,
+                                 uint32_t row_1)
+{
+    static const uint32_t words[ROWS] = {
+        3, 6, 0, 0, GAP, 0, GAP, GAP, GAP, 0, GAP, GAP,
+        4, 5, 0, 0, GAP, 0, GAP, GAP, GAP, 1, GAP, GAP};
+
+    memcpy(rows, words, sizeof words);
+    rows[SUNDERWATH_ROW_HART] = row_0;
+    rows[SUNDERWATH_ROW_WORDS + SUNDERWATH_ROW_HART] = row_1;
+}
+
+/* The answer of an accepted RISC-V board of two harts. */
+static const uint32_t answer_of_harts[SUNDERWATH_ANSWER_WORDS] = {
+    0, 0, 2, 0, 0, 0, 8, 16, 32, 0, NONE};
+
+/* Pairs of hart ids; the last four have bits that no MPIDR has. */
+#define HART_PAIRS 6
+static const uint32_t hart_pairs[HART_PAIRS][2] = {
+    {0x100, 0},           {5, 0xFFFFFF},       {0xFFFFFFFF, 0},
+    {0, 0x80000000},      {0x1000000, 0},      {0xFF000007, 0x7}};
 
 /* Whether a part holds these words behind its guard, and the pattern else. */
 static inline int holds(const uint32_t *part, size_t part_n,

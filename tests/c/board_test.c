@@ -1,7 +1,8 @@
 /*
  * Calls read_tables, check_tables and find_property from C on the whole case
  * of the scope paper and on some refusals, those with a second place among
- * them. Prints a line per case; exit status 1 on a difference.
+ * them, and on RISC-V boards. Prints a line per case; exit status 1 on a
+ * difference.
  */
 #include "board.h"
 
@@ -80,7 +81,7 @@ static void refusals(void)
     struct board board;
 
     whole_case(&board);
-    board.width = 5;
+    board.width = WRONG_WIDTH;
     report("1 board width", refused(&board, ROWS, 1, 0));
     whole_case(&board);
     board.n--;
@@ -260,8 +261,134 @@ static void test_calls(void)
     report("check_tables, name", checks_as(&board, 0, 0));
     board.props[5 * 9 + 4] = 0xFFFFFFFF;
     report("check_tables, 7", checks_as(&board, 7, 9));
-    board.width = 5;
+    board.width = WRONG_WIDTH;
     report("49 before 1", writes_nothing(&board));
+    whole_case(&board);
+    board.width = SUNDERWATH_RISCV;
+    report("check_tables, RISC-V", checks_as(&board, 0, 0));
+    report("49 answer space, RISC-V", writes_nothing(&board));
+    board.props[5 * 9 + 4] = 0xFFFFFFFF;
+    report("check_tables, RISC-V, 7", checks_as(&board, 7, 9));
+}
+
+/* ---- RISC-V boards ---- */
+
+/* Each pair is accepted as hart ids; as MPIDRs 12 is told of the lowest record
+ * with a bit outside. */
+static void accepted_harts(void)
+{
+    uint32_t rows[ROWS];
+    struct board board;
+    size_t i;
+    int good = 1, outside = 1;
+
+    for (i = 0; i < HART_PAIRS; i++) {
+        const uint32_t *pair = hart_pairs[i];
+        uint32_t width = i % 2 == 0 ? SUNDERWATH_ARM32 : SUNDERWATH_ARM64;
+        int first = pair[1] >> 24 != 0;
+
+        whole_case_of(&board, SUNDERWATH_RISCV, pair[0], pair[1]);
+        rows_of_harts(rows, pair[0], pair[1]);
+        good &= reads_as(&board, ROWS, answer_of_harts, rows);
+        good &= reads_as(&board, ROWS + 3, answer_of_harts, rows);
+        good &= refused(&board, ROWS - 1, SUNDERWATH_ROW_SPACE, 0);
+        board.width = width;
+        if ((pair[0] | pair[1]) >> 24 != 0)
+            outside &= refused_with(&board, ROWS, SUNDERWATH_CPU_REG,
+                                    first ? 5 : 6, first ? REG_OF_5 : REG_OF_6);
+    }
+    report("the header's names",
+           SUNDERWATH_ARM32 == 32 && SUNDERWATH_ARM64 == 64 &&
+               SUNDERWATH_RISCV == 5 && SUNDERWATH_ROW_HART == 3);
+    report("RISC-V hart ids", good);
+    report("12 the same as MPIDRs", outside);
+}
+
+/* A bit at a time: ids that differ in it are accepted, equal ones are 13. */
+static void equal_harts(void)
+{
+    uint32_t rows[ROWS];
+    struct board board;
+    unsigned at;
+    int good = 1, equal = 1;
+
+    for (at = 0; at < 32; at++) {
+        uint32_t id = UINT32_C(1) << at;
+
+        whole_case_of(&board, SUNDERWATH_RISCV, id, 0);
+        rows_of_harts(rows, id, 0);
+        good &= reads_as(&board, ROWS, answer_of_harts, rows);
+        whole_case_of(&board, SUNDERWATH_RISCV, ~id, 0xFFFFFFFF);
+        rows_of_harts(rows, ~id, 0xFFFFFFFF);
+        good &= reads_as(&board, ROWS, answer_of_harts, rows);
+        whole_case_of(&board, SUNDERWATH_RISCV, id, id);
+        equal &= refused(&board, ROWS, SUNDERWATH_DUPLICATE_CPU_REG, 6);
+    }
+    report("RISC-V ids of one bit", good);
+    report("13 equal hart ids", equal);
+}
+
+/* One address cell, and reg of four bytes. */
+static void cells_of_harts(void)
+{
+    uint32_t reg;
+    struct board board;
+    int good = 1;
+
+    whole_case_of(&board, SUNDERWATH_RISCV, 1, 0);
+    board.pool[board.props[3] + 3] = 2;
+    report("36 two cells, RISC-V", refused_with(&board, ROWS, 36, 0, 0));
+    board.props[5 * REG_OF_5 + 4] = board.props[5 * REG_OF_6 + 4] = 8;
+    report("36 two cells, reg of two", refused_with(&board, ROWS, 36, 0, 0));
+    for (reg = 0; reg <= 9; reg++) {
+        whole_case_of(&board, SUNDERWATH_RISCV, 0xFFFFFFFF, 0);
+        board.props[5 * REG_OF_6 + 4] = reg;
+        if (reg != 4)
+            good &= refused_with(&board, ROWS, SUNDERWATH_CPU_REG, 6, REG_OF_6);
+    }
+    report("12 length of a hart id", good);
+    whole_case_of(&board, SUNDERWATH_RISCV, 0xFFFFFFFF, 0);
+    board.props[5 * REG_OF_5 + 2]--;
+    report("12 no hart id", refused(&board, ROWS, SUNDERWATH_CPU_REG, 5));
+}
+
+/* Rules behind them are those of the other boards. */
+static void map_of_harts(void)
+{
+    struct board board;
+
+    whole_case_of(&board, SUNDERWATH_RISCV, 0xFFFFFFFF, 0);
+    board.props[5 * 3 + 3] = board.props[5 * 2 + 3];
+    report("25 hart repeated", refused(&board, ROWS, 25, 4));
+    whole_case_of(&board, SUNDERWATH_RISCV, 0xFFFFFFFF, 0);
+    board.props[5 * 3 + 2]--;
+    report("24 no hart", refused(&board, ROWS, 24, 4));
+    whole_case_of(&board, SUNDERWATH_RISCV, 0xFFFFFFFF, 0);
+    board.props[5 * 9 + 4]--;
+    report("17 phandle cut, RISC-V", refused_with(&board, ROWS, 17, 6, 9));
+}
+
+/* Every other board number is 1. */
+static void widths(void)
+{
+    static const uint32_t wrong[] = {0, 1, 4, 6, 7, 31, 33, 63, 65, 0xFFFFFFFF};
+    struct board board;
+    size_t i;
+    unsigned at;
+    int good = 1;
+
+    whole_case(&board);
+    for (i = 0; i < sizeof wrong / sizeof *wrong; i++) {
+        board.width = wrong[i];
+        good &= refused(&board, ROWS, SUNDERWATH_BOARD_WIDTH, 0);
+        good &= checks_as(&board, SUNDERWATH_BOARD_WIDTH, 0);
+    }
+    for (at = 0; at < 32; at++) {
+        board.width = SUNDERWATH_RISCV + (UINT32_C(1) << at);
+        good &= refused(&board, ROWS, SUNDERWATH_BOARD_WIDTH, 0);
+        good &= checks_as(&board, SUNDERWATH_BOARD_WIDTH, 0);
+    }
+    report("1 other board numbers", good);
 }
 
 int main(void)
@@ -272,6 +399,15 @@ int main(void)
     other_second_places();
     lookups();
     test_calls();
+    puts("the same refusals of RISC-V boards");
+    board_width = SUNDERWATH_RISCV;
+    refusals();
+    second_places();
+    accepted_harts();
+    equal_harts();
+    cells_of_harts();
+    map_of_harts();
+    widths();
     printf("%d different\n", failures);
     return failures == 0 ? 0 : 1;
 }

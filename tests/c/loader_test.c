@@ -1,10 +1,10 @@
 /*
  * Calls read_blob and slot from C: the whole case of the scope paper as a blob,
- * rows and answers of every length, blobs and boards that are refused, the
- * limits of the blob call, and lists of bytes. Each part is lent as an
- * allocation of its own length, so that valgrind sees a byte touched outside,
- * and between guards from any start. Prints a line per case; exit status 1 on a
- * difference.
+ * rows and answers of every length, blobs and boards that are refused, RISC-V
+ * boards, the limits of the blob call, and lists of bytes. Each part is lent as
+ * an allocation of its own length, so that valgrind sees a byte touched
+ * outside, and between guards from any start. Prints a line per case; exit
+ * status 1 on a difference.
  */
 #include "blob.h"
 #include "sunderwath.h"
@@ -20,11 +20,12 @@
 #define ROWS (CPUS * SUNDERWATH_ROW_BYTES)
 #define MOST_ROWS 1000
 #define LIST 300
+#define WRONG_WIDTH 33
 
-/* Offsets in the blob: the cell of #address-cells, that of the last cpu node's
- * reg, and the end token. */
+/* Offsets in the blob: the cell of #address-cells, those of the first and the
+ * last cpu node's reg, and the end token. */
 struct places {
-    size_t address_cells, reg, end;
+    size_t address_cells, first_reg, reg, end;
 };
 
 /* What a call has to return and write: number, place, second place, count or
@@ -266,6 +267,7 @@ static void whole_case_with(size_t nodes, size_t props, size_t outside)
     put_word(&blob, END_NODE);
     put_word(&blob, END_NODE);
     put_cpu("cpu@0", 0x0, 1);
+    places.first_reg = places.reg;
     put_cpu("cpu@100", 0x100, 2);
     put_others(nodes, props);
     put_word(&blob, END_NODE);
@@ -344,7 +346,8 @@ static void changed(const char *name, size_t at, uint32_t word,
     whole_case();
     set_word(&blob, at, word);
     report(name, refused(number, place, NONE) &&
-                     refused_with(5, 0, number, place, NONE));
+                     refused_with(SUNDERWATH_RISCV, 0, number, place, NONE) &&
+                     refused_with(WRONG_WIDTH, 0, number, place, NONE));
 }
 
 static void blobs(void)
@@ -372,13 +375,18 @@ static void blobs(void)
 
 static void widths(void)
 {
-    static const uint32_t wrong[] = {0, 5, 31, 33, 63, 65, 128, 0xFFFFFFFF};
+    static const uint32_t wrong[] = {0,  1,  4,  6,   7,         31,
+                                     33, 63, 65, 128, 0xFFFFFFFF};
     size_t i;
+    unsigned at;
     int good = 1;
 
     whole_case();
     for (i = 0; i < sizeof wrong / sizeof *wrong; i++)
         good &= refused_with(wrong[i], 0, SUNDERWATH_BOARD_WIDTH, 0, NONE);
+    for (at = 0; at < 32; at++)
+        good &= refused_with(SUNDERWATH_RISCV + (UINT32_C(1) << at), MOST_ROWS,
+                             SUNDERWATH_BOARD_WIDTH, 0, NONE);
     report("1 board width", good);
 }
 
@@ -415,6 +423,75 @@ static void boards(void)
     report("36 no #address-cells", refused(36, 0, NONE));
 }
 
+/* ---- RISC-V boards ---- */
+
+static int refused_harts(uint32_t number, uint32_t place, uint32_t second)
+{
+    return refused_with(SUNDERWATH_RISCV, MOST_ROWS, number, place, second);
+}
+
+/* The whole case with these hart ids, that of row 0 first. */
+static void whole_case_of_harts(uint32_t row_0, uint32_t row_1)
+{
+    whole_case();
+    set_word(&blob, places.reg, row_0);
+    set_word(&blob, places.first_reg, row_1);
+}
+
+static int harts_read(uint32_t row_0, uint32_t row_1)
+{
+    uint32_t rows[CPUS * SUNDERWATH_ROW_WORDS];
+    const struct told want = {
+        {0, 0, NONE, CPUS}, rows, CPUS * SUNDERWATH_ROW_WORDS};
+    uint32_t *second = rows + SUNDERWATH_ROW_WORDS;
+
+    memcpy(rows, whole_rows, sizeof rows);
+    rows[SUNDERWATH_ROW_HART] = row_0;
+    second[SUNDERWATH_ROW_HART] = row_1;
+    rows[SUNDERWATH_ROW_SLOT] = second[SUNDERWATH_ROW_SLOT] = GAP;
+    whole_case_of_harts(row_0, row_1);
+    return reads_as(SUNDERWATH_RISCV, ROWS, SUNDERWATH_BYTES_ANSWER, &want) &&
+           reads_as(SUNDERWATH_RISCV, ROWS + 3, SUNDERWATH_BYTES_ANSWER + 5,
+                    &want) &&
+           refused_with(SUNDERWATH_RISCV, ROWS - 1, SUNDERWATH_ROW_SPACE, 0,
+                        NONE);
+}
+
+static void harts(void)
+{
+    unsigned at;
+    int good = 1, equal = 1;
+
+    report("the board numbers",
+           SUNDERWATH_ARM32 == 32 && SUNDERWATH_ARM64 == 64 &&
+               SUNDERWATH_RISCV == 5 && SUNDERWATH_ROW_HART == 3);
+    report("RISC-V, 0xffffffff and 0", harts_read(0xFFFFFFFF, 0));
+    report("RISC-V, bytes of an id", harts_read(0x92345678, 0x100));
+    for (at = 0; at < 32; at++) {
+        uint32_t id = UINT32_C(1) << at;
+
+        good &= harts_read(id, 0) && harts_read(0xFFFFFFFF, ~id);
+        whole_case_of_harts(id, id);
+        equal &= refused_harts(SUNDERWATH_DUPLICATE_CPU_REG, 6, NONE);
+    }
+    report("RISC-V, ids of one bit", good);
+    report("13 equal hart ids", equal);
+}
+
+static void more_harts(void)
+{
+    whole_case_of_harts(0xFFFFFFFF, 0);
+    report("12 the ids as MPIDRs", refused(SUNDERWATH_CPU_REG, 6, 8));
+    set_word(&blob, places.address_cells, 2);
+    report("36 two cells, RISC-V", refused_harts(36, 0, 0));
+    whole_case_of_harts(0xFFFFFFFF, 0);
+    set_word(&blob, places.reg - 8, 3);
+    report("12 hart id of 3 bytes", refused_harts(SUNDERWATH_CPU_REG, 6, 8));
+    whole_case_of_harts(0xFFFFFFFF, 0);
+    set_word(&blob, places.reg + 16, 3);
+    report("24 cpu, RISC-V", refused_harts(24, 3, 2));
+}
+
 /* ---- limits ---- */
 
 static int accepted(void)
@@ -431,7 +508,9 @@ static void of_size(size_t nodes, size_t props, size_t outside)
 static int too_many(void)
 {
     return refused_with(64, ROWS, SUNDERWATH_TABLE_SPACE, 0, NONE) &&
-           refused_with(5, 0, SUNDERWATH_TABLE_SPACE, 0, NONE);
+           refused_with(SUNDERWATH_RISCV, ROWS, SUNDERWATH_TABLE_SPACE, 0,
+                        NONE) &&
+           refused_with(WRONG_WIDTH, 0, SUNDERWATH_TABLE_SPACE, 0, NONE);
 }
 
 static void limits(void)
@@ -521,6 +600,8 @@ int main(void)
     blobs();
     widths();
     boards();
+    harts();
+    more_harts();
     limits();
     lists();
     list_lengths();

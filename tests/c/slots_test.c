@@ -1,8 +1,8 @@
 /*
  * Calls read_tables_slots from C: the whole case of the scope paper and boards
- * of other hashes, with tables of lengths around two to the bit count; 38, 39,
- * 49 and refusals by earlier rules. Prints a line per case; exit status 1 on a
- * difference.
+ * of other hashes, with tables of lengths around two to the bit count; RISC-V
+ * boards, with a table of one entry; 38, 39, 49 and refusals by earlier rules.
+ * Prints a line per case; exit status 1 on a difference.
  */
 #include "board.h"
 
@@ -12,7 +12,6 @@
 #define ROW_ROOM (ROWS + SUNDERWATH_ROW_WORDS + 2 * GUARD)
 #define ENTRIES (2 * SUNDERWATH_MAX_TABLE)
 #define TABLE_ROOM (ENTRIES + 2 * GUARD)
-#define REG 8 /* the property record of the whole case's second reg */
 
 /* What is expected of a call; no rows or no table where these are NULL. */
 struct reading {
@@ -104,7 +103,7 @@ static int same_without_table(const struct board *board, size_t words)
 static void whole_case_with(struct board *board, uint32_t mpidr)
 {
     whole_case(board);
-    set_cell(board->pool + board->props[5 * REG + 3], mpidr);
+    set_cell(board->pool + board->props[5 * REG_OF_6 + 3], mpidr);
 }
 
 /* ---- accepted boards ---- */
@@ -238,7 +237,7 @@ static void earlier_rules(void)
 
     whole_case(&board);
     report("27 before 39", refused_by_all(&board, ROWS - 1, 27, 0, NONE));
-    board.width = 5;
+    board.width = WRONG_WIDTH;
     report("1 board width", refused_by_all(&board, ROWS, 1, 0, NONE));
     whole_case_with(&board, 0x1FFF);
     board.props[5 * 9 + 4] = 0xFFFFFFFF;
@@ -278,8 +277,56 @@ static void short_answers(void)
     report("49 before 27", writes_nothing(&board, ROWS - 1, 2));
     whole_case_with(&board, 0x1FFF);
     report("49 before 38", writes_nothing(&board, ROWS, ENTRIES));
-    board.width = 5;
+    board.width = WRONG_WIDTH;
     report("49 before 1", writes_nothing(&board, ROWS, 2));
+}
+
+/* ---- RISC-V boards ---- */
+
+/* No slots: one entry, GAP, whatever the hart ids are; 39 with none. */
+static void harts(void)
+{
+    static const uint32_t entry[1] = {GAP};
+    uint32_t two_rows[ROWS];
+    struct reading want = {{0}, two_rows, entry, ROWS, 1};
+    struct board board;
+    size_t i;
+    int good = 1;
+
+    memcpy(want.answer, answer_of_harts, sizeof answer_of_harts);
+    for (i = 0; i < HART_PAIRS; i++) {
+        whole_case_of(&board, SUNDERWATH_RISCV, hart_pairs[i][0],
+                      hart_pairs[i][1]);
+        rows_of_harts(two_rows, hart_pairs[i][0], hart_pairs[i][1]);
+        good &= lengths(&board, &want);
+    }
+    report("RISC-V, one entry of GAP", good);
+    report("39 no entry, RISC-V",
+           refused(&board, ROWS, 0, SUNDERWATH_SLOT_TABLE_SPACE, 0));
+}
+
+/* Each is told before 39. */
+static void refused_harts(void)
+{
+    struct board board;
+
+    whole_case_of(&board, SUNDERWATH_RISCV, 0xFFFFFFFF, 0);
+    report("27 before 39, RISC-V",
+           refused_by_all(&board, ROWS - 1, SUNDERWATH_ROW_SPACE, 0, NONE));
+    report("49 before 39, RISC-V", writes_nothing(&board, ROWS, 0));
+    board.pool[board.props[3] + 3] = 2;
+    report("36 two cells, RISC-V", refused_by_all(&board, ROWS, 36, 0, 0));
+    whole_case_of(&board, SUNDERWATH_RISCV, 0xFFFFFFFF, 0xFFFFFFFF);
+    report("13 equal hart ids", refused_by_all(&board, ROWS, 13, 6, NONE));
+    whole_case_of(&board, SUNDERWATH_RISCV, 0xFFFFFFFF, 0);
+    board.props[5 * REG_OF_5 + 4] = 8;
+    report("12 hart id of 8 bytes",
+           refused_by_all(&board, ROWS, SUNDERWATH_CPU_REG, 5, REG_OF_5));
+    whole_case_of(&board, SUNDERWATH_ARM64, 0xFFFFFFFF, 0);
+    report("12 the id as an MPIDR",
+           refused_by_all(&board, ROWS, SUNDERWATH_CPU_REG, 6, REG_OF_6));
+    whole_case_of(&board, SUNDERWATH_RISCV - 1, 1, 0);
+    report("1 board 4", refused_by_all(&board, ROWS, 1, 0, NONE));
 }
 
 int main(void)
@@ -288,6 +335,8 @@ int main(void)
     too_many_bits();
     earlier_rules();
     short_answers();
+    harts();
+    refused_harts();
     printf("%d different\n", failures);
     return failures == 0 ? 0 : 1;
 }

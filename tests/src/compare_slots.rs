@@ -8,6 +8,7 @@ use crate::compare::second_tables;
 use crate::ffi;
 use crate::rng::Rng;
 use crate::second::{self, ReadSlots, SLOT_NUMBERS};
+use crate::width::RISCV;
 
 const GAP: u32 = u32::MAX;
 const ROW_WORDS: usize = 12;
@@ -133,11 +134,22 @@ fn plain_differs(board: &Board, lent: Lent, read: &ReadSlots) -> Option<String> 
     (!same).then(|| format!("with a table {:?}\nwithout {answer:?}", read.answer))
 }
 
-/// W5 of an accepted board: each row is found from its slot, an entry that isn't
-/// GAP names a row with that slot, and no row has the slot of a GAP.
-fn facts_fail(read: &ReadSlots) -> Option<String> {
-    if read.answer.number != 0 {
-        return None;
+/// W7 of an accepted RISC-V board: no row has a slot, and the one entry is GAP.
+fn gaps_fail(read: &ReadSlots) -> Option<String> {
+    let (rows, table) = filled(read);
+    let words = rows.iter().map(|row| row[SLOT_WORD]).chain([table[0]]);
+    let other = words.enumerate().find(|&(_, word)| word != GAP);
+    let one_entry = table.len() == 1;
+    (other.is_some() || !one_entry).then(|| format!("no GAP {other:x?}, entries {}", table.len()))
+}
+
+/// W5 of an accepted ARM board: each row is found from its slot, an entry that
+/// isn't GAP names a row with that slot, and no row has the slot of a GAP.
+fn facts_fail(width: u32, read: &ReadSlots) -> Option<String> {
+    match (read.answer.number, width) {
+        (0, RISCV) => return gaps_fail(read),
+        (0, _) => {}
+        _ => return None,
     }
     let (rows, table) = filled(read);
     let slot = |row: &&[u32]| row[SLOT_WORD];
@@ -164,7 +176,7 @@ fn answer_of_both(board: &Board, lent: Lent) -> Result<Answer, String> {
     let different = word_differs("rows", &ours.rows, &wanted.rows)
         .or_else(|| word_differs("table", &ours.table, &wanted.table))
         .or_else(|| plain_differs(board, lent, &ours))
-        .or_else(|| facts_fail(&ours));
+        .or_else(|| facts_fail(board.width, &ours));
     different.map_or(Ok(ours.answer), Err)
 }
 
@@ -185,7 +197,7 @@ pub fn compare_slots(board: &Board, lent: Lent) -> Result<Answer, String> {
 #[cfg(test)]
 mod tests {
     use super::*;
-    use crate::build::worked::{cores, whole_case};
+    use crate::build::worked::{cores, harts, whole_case};
 
     const LENT: Lent = Lent {
         entries: 9,
@@ -198,7 +210,7 @@ mod tests {
         for &(entry, word) in changes {
             inner_mut(&mut read.table)[entry] = word;
         }
-        facts_fail(&read).is_some()
+        facts_fail(board.width, &read).is_some()
     }
 
     #[test]
@@ -215,6 +227,17 @@ mod tests {
         assert!(fails_with(&whole, &[(0, 0), (1, 1)]));
         assert!(fails_with(&with_gaps, &[(7, 1)]));
         assert!(fails_with(&with_gaps, &[(7, 2)]));
+    }
+
+    #[test]
+    fn facts_of_harts() {
+        let board = Board::of(RISCV, &harts(&[0, u32::MAX]));
+        assert!(!fails_with(&board, &[]));
+        assert!(!fails_with(&board, &[(1, 0)]));
+        assert!(fails_with(&board, &[(0, 0)]));
+        let mut read = second_slots(&board, LENT);
+        inner_mut(&mut read.rows)[ROW_WORDS + SLOT_WORD] = 0;
+        assert!(facts_fail(RISCV, &read).is_some());
     }
 
     #[test]

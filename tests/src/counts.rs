@@ -58,6 +58,12 @@ impl Counts {
         numbers().all(|number| self.of(number) > 0) && self.second_places()
     }
 
+    /// The same of boards of one width that rule 1 allows.
+    pub fn complete_but_width(&self) -> bool {
+        let mut others = numbers().filter(|&number| number != 1);
+        others.all(|number| self.of(number) > 0) && self.second_places()
+    }
+
     /// A line for each number of read_tables that was told, with 0 for acceptance,
     /// and then the numbers that were not told.
     pub fn lines(&self) -> String {

@@ -37,3 +37,30 @@ pub fn number_of(source: &Path) -> u32 {
         None => 0,
     }
 }
+
+/// The sources of RISC-V boards, and the number told of each when it is read as
+/// one.
+const RISCV_SOURCES: [(&str, u32); 9] = [
+    ("example3", 24),
+    ("example3-corrected", 25),
+    ("example3-no-phandle", 17),
+    ("hifive-unleashed", 0),
+    ("qemu-riscv-numa", 0),
+    ("qemu-riscv-virt", 0),
+    ("refused-13-same-hart", 13),
+    ("riscv-two-cells", 36),
+    ("sparse-harts", 0),
+];
+
+/// The number told of a RISC-V board, None where the board is another.
+pub fn riscv_number_of(source: &Path) -> Option<u32> {
+    let name = source.file_stem().expect("it has a name").to_string_lossy();
+    let listed = RISCV_SOURCES.iter().find(|(other, _)| *other == name);
+    listed.map(|&(_, number)| number)
+}
+
+/// Whether a cpu of a source says that it is a RISC-V one.
+pub fn names_riscv(source: &Path) -> bool {
+    let text = std::fs::read_to_string(source).expect("it can be read");
+    text.contains("\"riscv\"")
+}

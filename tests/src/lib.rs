@@ -23,3 +23,4 @@ pub mod lent_bytes;
 pub mod rng;
 pub mod second;
 pub mod timing;
+pub mod width;

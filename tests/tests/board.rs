@@ -5,13 +5,14 @@ use sunderwath_tests::build::faults::{self, rename, with_faults, Fault};
 use sunderwath_tests::build::mix::{any_board, large_board};
 use sunderwath_tests::build::order::{self, children_named};
 use sunderwath_tests::build::property_faults::second_place;
-use sunderwath_tests::build::shapes::{fill_up, regular_board, valid_board};
+use sunderwath_tests::build::shapes::{fill_up, regular_board, regular_board_of, valid_board};
 use sunderwath_tests::build::small::{maps_in_order, maps_with_choices};
 use sunderwath_tests::build::worked::{self, cores, cpu_node, cpus_node, group, leaf, nested};
 use sunderwath_tests::build::{cell, text, Board, Node};
 use sunderwath_tests::compare::{compare, library};
 use sunderwath_tests::counts::{numbers, Counts};
 use sunderwath_tests::rng::Rng;
+use sunderwath_tests::width::{ARM32, ARM64, RISCV, WIDTHS};
 use sunderwath_tests::{ffi, second};
 
 const GAP: u32 = u32::MAX;
@@ -224,21 +225,33 @@ fn names() {
     }
 }
 
-/// Each number alone, then every pair of faults in both orders: the one of the
-/// earlier stage, lower place and smaller number is told.
+/// Each number alone, on each board.
 #[test]
-fn each_number_and_pairs_of_faults() {
-    expect(64, &faults::base(), 0, 0);
-    let faults = faults::faults();
-    for fault in &faults {
-        expect_board(&with_faults(&[fault]), fault.number, fault.place);
+fn each_number() {
+    for width in WIDTHS {
+        expect(width, &faults::base(width), 0, 0);
+        let faults = faults::faults(width);
+        for fault in &faults {
+            expect_board(&with_faults(width, &[fault]), fault.number, fault.place);
+        }
+        assert!(numbers().all(|number| faults.iter().any(|fault| fault.number == number)));
     }
-    assert!(numbers().all(|number| faults.iter().any(|fault| fault.number == number)));
+}
+
+/// Every pair of faults in both orders: the one of the earlier stage, lower place
+/// and smaller number is told.
+#[test]
+fn pairs_of_faults() {
+    WIDTHS.into_iter().for_each(pairs_on);
+}
+
+fn pairs_on(width: u32) {
+    let faults = faults::faults(width);
     let key = |f: &Fault| (second::stage_of(f.number), f.place, f.number);
     let mut pairs = 0;
     for first in &faults {
         for second in &faults {
-            let board = with_faults(&[first, second]);
+            let board = with_faults(width, &[first, second]);
             // A sound cpu node made by 26 keeps 10 from being broken.
             let both = (first.number, second.number);
             if matches!(both, (10, 26) | (26, 10)) {
@@ -254,79 +267,91 @@ fn each_number_and_pairs_of_faults() {
             pairs += 1;
         }
     }
-    println!("{} faults, {pairs} ordered pairs", faults.len());
+    let count = faults.len();
+    println!("width {width}: {count} faults, {pairs} ordered pairs");
 }
+
+type Spoil = fn(&mut Node);
+
+/// Several faults at one record: the number and the place told.
+const SEVERAL: [(u32, usize, Spoil); 12] = [
+    // device_type, reg length; then reg alone
+    (11, 1, |r| {
+        r.at(1).remove("device_type");
+        r.at(1).remove("reg");
+    }),
+    // a reg of no length that is allowed, which a later one has too
+    (12, 1, |r| {
+        for at in [1, 2] {
+            r.at(at).set("reg", [0; 6]);
+        }
+    }),
+    // no topology name and no cpu
+    (19, 8, |r| {
+        rename(r, 8, "thread");
+        r.at(8).remove("cpu");
+    }),
+    // kind, number and no cpu
+    (20, 8, |r| {
+        rename(r, 8, "core7");
+        r.at(8).remove("cpu");
+    }),
+    // number and no cpu
+    (21, 8, |r| {
+        rename(r, 8, "thread7");
+        r.at(8).remove("cpu");
+    }),
+    // number and a cpu named before
+    (21, 8, |r| {
+        rename(r, 8, "thread0");
+        r.at(8).set("cpu", cell(1));
+    }),
+    // kind, depth and no children
+    (20, 18, |r| rename(r, 18, "cluster0")),
+    // number, depth and no children
+    (21, 17, |r| {
+        rename(r, 17, "cluster3");
+        r.at(17).children.clear();
+    }),
+    // depth and no children
+    (22, 17, |r| {
+        rename(r, 17, "cluster0");
+        r.at(17).children.clear();
+    }),
+    // number and no children
+    (21, 10, |r| {
+        rename(r, 10, "cluster5");
+        r.at(10).children.clear();
+    }),
+    // a thread with a child and a bad cpu is told before the child
+    (24, 18, |r| {
+        r.at(18).children.push(leaf("thread0", 5));
+        r.at(18).set("cpu", cell(99));
+    }),
+    // with a good cpu the child is told
+    (20, 19, |r| r.at(18).children.push(leaf("thread0", 5))),
+];
 
 /// The smallest number that one record breaks is told.
 #[test]
 fn several_faults_at_one_record() {
-    type Spoil = fn(&mut Node);
-    let cases: [(u32, usize, Spoil); 12] = [
-        // device_type, reg length; then reg alone
-        (11, 1, |r| {
-            r.at(1).remove("device_type");
-            r.at(1).remove("reg");
-        }),
-        // a reg of wrong bits that an earlier one has too is told there
-        (12, 1, |r| {
-            for at in [1, 2] {
-                r.at(at).set("reg", [0, 0, 0, 0, 1, 0, 0, 0]);
-            }
-        }),
-        // no topology name and no cpu
-        (19, 8, |r| {
-            rename(r, 8, "thread");
-            r.at(8).remove("cpu");
-        }),
-        // kind, number and no cpu
-        (20, 8, |r| {
-            rename(r, 8, "core7");
-            r.at(8).remove("cpu");
-        }),
-        // number and no cpu
-        (21, 8, |r| {
-            rename(r, 8, "thread7");
-            r.at(8).remove("cpu");
-        }),
-        // number and a cpu named before
-        (21, 8, |r| {
-            rename(r, 8, "thread0");
-            r.at(8).set("cpu", cell(1));
-        }),
-        // kind, depth and no children
-        (20, 18, |r| rename(r, 18, "cluster0")),
-        // number, depth and no children
-        (21, 17, |r| {
-            rename(r, 17, "cluster3");
-            r.at(17).children.clear();
-        }),
-        // depth and no children
-        (22, 17, |r| {
-            rename(r, 17, "cluster0");
-            r.at(17).children.clear();
-        }),
-        // number and no children
-        (21, 10, |r| {
-            rename(r, 10, "cluster5");
-            r.at(10).children.clear();
-        }),
-        // a thread with a child and a bad cpu is told before the child
-        (24, 18, |r| {
-            r.at(18).children.push(leaf("thread0", 5));
-            r.at(18).set("cpu", cell(99));
-        }),
-        // with a good cpu the child is told
-        (20, 19, |r| r.at(18).children.push(leaf("thread0", 5))),
-    ];
-    for (number, place, spoil) in cases {
-        let mut root = faults::base();
-        spoil(&mut root);
-        expect(64, &root, number, place);
+    for width in WIDTHS {
+        for (number, place, spoil) in SEVERAL {
+            let mut root = faults::base(width);
+            spoil(&mut root);
+            expect(width, &root, number, place);
+        }
+        // Names that are no topology name below a thread: 19 at the child.
+        let mut root = faults::base(width);
+        root.at(18).children.push(Node::new("x"));
+        expect(width, &root, 19, 19);
     }
-    // Names that are no topology name below a thread: 19 at the child.
-    let mut root = faults::base();
-    root.at(18).children.push(Node::new("x"));
-    expect(64, &root, 19, 19);
+    // A reg of wrong bits that a later one has too.
+    let mut root = faults::base(ARM64);
+    for at in [1, 2] {
+        root.at(at).set("reg", [0, 0, 0, 0, 1, 0, 0, 0]);
+    }
+    expect(ARM64, &root, 12, 1);
 }
 
 /// Rows stand in leaf record order, whatever the order of the numbers.
@@ -474,11 +499,12 @@ fn maps_in_odd_places() {
 
 #[test]
 fn cells_and_widths() {
-    for (width, cells, number) in [(32, 1, 0), (64, 1, 0), (32, 2, 36), (64, 2, 0)] {
-        let mut root = cpus_node(cells);
-        let map = Node::new("cpu-map").child(group("cluster", 0, vec![leaf("core0", 1)]));
-        root.children = vec![map, cpu_node(cells, 5, 1)];
-        expect(width, &root, number, 0);
+    for (width, most) in [(ARM32, 1), (ARM64, 2), (RISCV, 1)] {
+        for cells in [1, 2] {
+            let map = Node::new("cpu-map").child(group("cluster", 0, vec![leaf("core0", 1)]));
+            let root = cpus_node(cells).child(map).child(cpu_node(cells, 5, 1));
+            expect(width, &root, if cells > most { 36 } else { 0 }, 0);
+        }
     }
     let spoilt: [(&str, &[u8], u32); 10] = [
         ("#address-cells", &[], 36),
@@ -622,8 +648,9 @@ fn cpu_names() {
 #[test]
 fn row_buffers() {
     let mut tried = 0;
-    for cpus in [1, 2, 3, 16, 256] {
-        let mut board = Board::of(64, &regular_board(cpus));
+    let sizes = [1, 2, 3, 16, 256].map(|cpus| [(ARM64, cpus), (RISCV, cpus)]);
+    for (width, cpus) in sizes.into_iter().flatten() {
+        let mut board = Board::of(width, &regular_board_of(width, cpus));
         let need = 12 * cpus;
         let lengths = (0..=40).chain(need.saturating_sub(25)..need + 26);
         for room in lengths {
@@ -683,11 +710,13 @@ fn small_maps() {
             Err(report) => panic!("{report}"),
         }
     };
-    for count in 0..=4 {
-        maps_in_order(count, &mut job);
-    }
-    for count in 1..=3 {
-        maps_with_choices(count, &mut job);
+    for width in [ARM64, RISCV] {
+        for count in 0..=4 {
+            maps_in_order(width, count, &mut job);
+        }
+        for count in 1..=3 {
+            maps_with_choices(width, count, &mut job);
+        }
     }
     println!("{all} small maps:\n{}", counts.lines());
 }
@@ -714,19 +743,23 @@ fn sound_boards() {
 fn mixed_boards() {
     let seed = 0xB0A2_D500;
     let mut rng = Rng::new(seed);
-    let mut counts = Counts::default();
-    let boards = 60_000;
+    let [mut counts, mut of_harts] = [(); 2].map(|()| Counts::default());
+    let boards = 80_000;
     for at in 0..boards {
         let board = if at % 2000 == 0 {
             large_board(&mut rng)
         } else {
             any_board(&mut rng)
         };
-        match compare(&board) {
-            Ok(answer) => counts.add(&answer),
-            Err(report) => panic!("seed {seed:#x}, board {at}:\n{report}"),
+        let answer = compare(&board)
+            .unwrap_or_else(|report| panic!("seed {seed:#x}, board {at}:\n{report}"));
+        counts.add(&answer);
+        if board.width == RISCV {
+            of_harts.add(&answer);
         }
     }
     println!("{boards} mixed boards, seed {seed:#x}:\n{}", counts.lines());
+    println!("RISC-V boards among them:\n{}", of_harts.lines());
     assert!(counts.of(0) > 0 && counts.complete());
+    assert!(of_harts.of(0) > 0 && of_harts.complete_but_width());
 }

@@ -17,6 +17,7 @@ use sunderwath_tests::counts::Counts;
 use sunderwath_tests::dtc::{compiled, number_of, sources, LAYOUTS};
 use sunderwath_tests::rng::Rng;
 use sunderwath_tests::second::FlatTables;
+use sunderwath_tests::width::{RISCV, WIDTHS};
 
 /// The tables of a blob, with the blob as the pool.
 fn board_of(blob: &[u8], width: u32) -> Board {
@@ -82,6 +83,8 @@ fn worked_boards_as_tables_and_as_blobs() {
         ("example2", 64, worked::example_2()),
         ("example3", 64, worked::example_3()),
         ("example3-corrected", 64, worked::example_3_corrected()),
+        ("example3", RISCV, worked::example_3()),
+        ("example3-corrected", RISCV, worked::example_3_corrected()),
         (
             "example3-no-phandle",
             64,
@@ -142,9 +145,9 @@ fn trees_as_tables_and_as_blobs() {
 
 /// What read_tables tells of tables that read_flat filled: never 2, 3, 4, 6 or 9,
 /// and 5 or 7 only of a name's length.
-fn follow_up(blob: &[u8]) -> Option<Answer> {
+fn follow_up(blob: &[u8], width: u32) -> Option<Answer> {
     agreed_with_room(blob).ok()?;
-    let board = board_of(blob, 64);
+    let board = board_of(blob, width);
     if board.node_count() > 1024 || board.prop_count() > 4096 {
         return None;
     }
@@ -164,11 +167,11 @@ fn what_is_left_to_read_tables() {
     const BLOBS: usize = 20_000;
     const SEED: u64 = 0x57E9;
     println!("{BLOBS} blobs, seed {SEED:#x}");
-    let mut rng = Rng::new(SEED);
+    let [mut rng, mut widths] = [SEED, !SEED].map(Rng::new);
     let mut counts = Counts::default();
     let blobs = (0..BLOBS).map(|_| any_case(&mut rng).blob);
     for blob in blobs.chain(large::all()) {
-        if let Some(answer) = follow_up(&blob) {
+        if let Some(answer) = follow_up(&blob, *widths.pick(&WIDTHS)) {
             counts.add(&answer);
         }
     }

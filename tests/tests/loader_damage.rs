@@ -13,6 +13,7 @@ use sunderwath_tests::build::Node;
 use sunderwath_tests::compare_blob::agreed_blob;
 use sunderwath_tests::counts::{blob_numbers, Counts};
 use sunderwath_tests::ffi;
+use sunderwath_tests::width::{ARM64, RISCV, WIDTHS};
 
 fn plain(root: &Node) -> Vec<u8> {
     write(&items(root), &Form::default())
@@ -22,7 +23,7 @@ fn plain(root: &Node) -> Vec<u8> {
 fn count(blobs: &[Vec<u8>], counts: &mut Counts) {
     for (at, blob) in blobs.iter().enumerate() {
         let lent = Lent {
-            width: if at % 3 == 0 { 7 } else { 64 },
+            width: [7, ARM64, RISCV][at % 3],
             rows: 96 + at % 9,
             answer: 16 + at % 5,
             start: at % 8,
@@ -31,7 +32,7 @@ fn count(blobs: &[Vec<u8>], counts: &mut Counts) {
         let answer = told.answer.expect("the answer is long enough");
         counts.add(&answer);
         let of_blob = (31..=35).contains(&answer.number);
-        assert!(of_blob || lent.width == 64 || answer.number == 1);
+        assert!(of_blob || WIDTHS.contains(&lent.width) || answer.number == 1);
     }
 }
 
@@ -169,7 +170,7 @@ fn broken_streams() {
         };
         let blob = write(&fault.list, &form);
         let place = word(&blob, STRUCTURE_AT) as usize + offset_of(&fault.list, fault.at);
-        for width in [64, 5] {
+        for width in [ARM64, RISCV, 7] {
             let lent = Lent {
                 width,
                 start: at % 8,

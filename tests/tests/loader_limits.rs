@@ -10,6 +10,7 @@ use sunderwath_tests::build::worked::{cores, nested, whole_case};
 use sunderwath_tests::build::Node;
 use sunderwath_tests::compare_blob::agreed_blob;
 use sunderwath_tests::second::Told;
+use sunderwath_tests::width::WIDTHS;
 
 const MOST: usize = 1024;
 const REFUSED: [u32; 4] = [35, 0, NO_PROPERTY, 0];
@@ -169,7 +170,7 @@ fn before_rules_of_boards() {
         cpus.at(1).name = vec![b'n'; 65];
         cpus.remove("#size-cells");
         cpus.set("p-extra", []);
-        for width in [64, 32, 5] {
+        for width in WIDTHS.into_iter().chain([7]) {
             let lent = Lent {
                 width,
                 rows: 0,

@@ -14,6 +14,7 @@ use sunderwath_tests::build::worked::whole_case;
 use sunderwath_tests::build::{blob, Node};
 use sunderwath_tests::compare_blob::agreed_blob;
 use sunderwath_tests::counts::{blob_numbers, Counts};
+use sunderwath_tests::width::{RISCV, UNKNOWN_WIDTHS, WIDTHS};
 
 fn plain(root: &Node) -> Vec<u8> {
     write(&items(root), &Form::default())
@@ -36,7 +37,7 @@ fn expect(blob: &[u8], width: u32, words: [u32; 4], what: &str) {
 /// is told before it.
 #[test]
 fn each_fault_of_a_tree() {
-    let mut counts = Counts::default();
+    let [mut counts, mut of_harts] = [(); 2].map(|()| Counts::default());
     let faults = tree_faults();
     for fault in &faults {
         let TreeFault { answer, what, .. } = fault;
@@ -46,6 +47,9 @@ fn each_fault_of_a_tree() {
             expect(&blob, 33, [1, 0, NO_PROPERTY, 0], what);
         }
         counts.add(answer);
+        if fault.width == RISCV {
+            of_harts.add(answer);
+        }
     }
     let lines = counts.lines_of(blob_numbers());
     println!("{} faults of trees\n{lines}", faults.len());
@@ -53,7 +57,8 @@ fn each_fault_of_a_tree() {
     let left = [1, 27, 31, 32, 33, 34, 35, 49];
     let of_trees: BTreeSet<u32> = blob_numbers().filter(|n| !left.contains(n)).collect();
     assert_eq!(counts.told(), of_trees);
-    assert!(counts.second_places());
+    assert_eq!(of_harts.told(), of_trees);
+    assert!(counts.second_places() && of_harts.second_places());
 }
 
 /// The faults of a blob and of what is lent beside it, in the order of checking.
@@ -107,19 +112,19 @@ fn order_of_numbers() {
     println!("every set of {ORDER:?}, and 27");
 }
 
-/// Only 32 and 64 are widths, and only once the blob is sound.
+/// Only 32, 64 and 5 are widths, and only once the blob is sound.
 #[test]
 fn widths() {
     let sound = plain(&around(whole_case()));
     let mut broken = sound.clone();
     set_word(&mut broken, VERSION_AT, 16);
-    let near = (0..=130).chain([0x100, 0x2020, 0x4000_0040, u32::MAX - 1, u32::MAX]);
-    for width in near {
+    let near = (0..=130).chain([0x100, 0x2020, 0x4000_0040, u32::MAX - 1]);
+    for width in near.chain(UNKNOWN_WIDTHS) {
         let lent = Lent {
             width,
             ..Lent::default()
         };
-        let number = if [32, 64].contains(&width) { 0 } else { 1 };
+        let number = if WIDTHS.contains(&width) { 0 } else { 1 };
         assert_eq!(agreed_blob(&sound, lent).number(), number);
         assert_eq!(agreed_blob(&broken, lent).number(), 31);
     }
@@ -128,7 +133,13 @@ fn widths() {
 /// The board that faults are made on has five rows.
 #[test]
 fn the_sound_board() {
-    let told = agreed_blob(&blob::write(&faults::base()), Lent::default());
-    assert_eq!(told.words(), Some([0, 0, NO_PROPERTY, 5]));
-    assert_eq!(told.rows.len(), 60);
+    for width in WIDTHS {
+        let lent = Lent {
+            width,
+            ..Lent::default()
+        };
+        let told = agreed_blob(&blob::write(&faults::base(width)), lent);
+        assert_eq!(told.words(), Some([0, 0, NO_PROPERTY, 5]));
+        assert_eq!(told.rows.len(), 60);
+    }
 }

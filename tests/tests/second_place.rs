@@ -9,6 +9,7 @@ use sunderwath_tests::build::worked::{cores, whole_case};
 use sunderwath_tests::build::{cell, text, Board, Node};
 use sunderwath_tests::compare::compare;
 use sunderwath_tests::rng::Rng;
+use sunderwath_tests::width::WIDTHS;
 
 fn agreed(board: &Board) -> Answer {
     compare(board).unwrap_or_else(|report| panic!("{report}"))
@@ -36,7 +37,8 @@ fn rotated(board: &Board, by: usize) -> Board {
     board
 }
 
-/// On both widths, in the order of the nodes and with the properties shuffled.
+/// On each board that it is a fault of, in the order of the nodes and with the
+/// properties shuffled.
 #[test]
 fn each_fault_of_a_property() {
     const SEED: u64 = 0x5EC0;
@@ -48,20 +50,20 @@ fn each_fault_of_a_property() {
     }
     for fault in &faults {
         let tree = fault.tree();
-        for width in [32, fault.width] {
+        for &width in fault.widths {
             expect_fault(&Board::of(width, &tree), fault);
             for _ in 0..20 {
                 expect_fault(&Board::shuffled(width, &tree, &mut rng), fault);
             }
         }
     }
-    println!("{} faults in 42 orders, seed {SEED:#x}", faults.len());
+    println!("{} faults in 21 orders, seed {SEED:#x}", faults.len());
 }
 
 /// Without a fault the same board is accepted; 2 cells are allowed on width 64.
 #[test]
 fn the_board_of_these_faults_is_sound() {
-    for width in [32, 64] {
+    for width in WIDTHS {
         let answer = agreed(&Board::of(width, &base()));
         assert_eq!((answer.number, answer.second), (0, NO_PROPERTY));
     }
@@ -75,7 +77,8 @@ fn the_board_of_these_faults_is_sound() {
 #[test]
 fn every_second_place() {
     for fault in property_faults::faults() {
-        let board = Board::of(fault.width, &fault.tree());
+        let last = fault.widths.len() - 1;
+        let board = Board::of(fault.widths[last], &fault.tree());
         let mut seen = Vec::new();
         for by in 0..board.prop_count() {
             let board = rotated(&board, by);
@@ -130,22 +133,26 @@ fn faults_of_record_0_at_once() {
     let of = |number| faults.iter().filter(move |f| f.needed.number == number);
     for address in of(36) {
         for size in of(37) {
-            let mut root = size.tree();
-            address.apply(&mut root);
-            let board = Board::of(address.width, &root);
-            expect_fault(&board, address);
-            expect_fault(&rotated(&board, 7), address);
-            root.children.clear();
-            expect_fault(&Board::of(address.width, &root), address);
-            root.name = b"cpu".to_vec();
-            expect(&Board::of(address.width, &root), 9, 0, NO_PROPERTY);
+            for &width in address.widths {
+                let mut root = size.tree();
+                address.apply(&mut root);
+                let board = Board::of(width, &root);
+                expect_fault(&board, address);
+                expect_fault(&rotated(&board, 7), address);
+                root.children.clear();
+                expect_fault(&Board::of(width, &root), address);
+                root.name = b"cpu".to_vec();
+                expect(&Board::of(width, &root), 9, 0, NO_PROPERTY);
+            }
         }
     }
     // 10 comes behind 37.
     for size in of(37) {
         let mut root = size.tree();
         root.children.clear();
-        expect_fault(&Board::of(64, &root), size);
+        for width in WIDTHS {
+            expect_fault(&Board::of(width, &root), size);
+        }
     }
 }
 
@@ -173,11 +180,13 @@ fn repeated_phandles() {
 /// Every other number, and acceptance, has no second place.
 #[test]
 fn other_numbers() {
-    for fault in faults::faults() {
-        let answer = agreed(&faults::with_faults(&[&fault]));
-        let needed = NEEDED.iter().any(|n| n.number == fault.number);
-        assert_eq!(answer.number, fault.number);
-        assert!(needed || answer.second == NO_PROPERTY, "{}", fault.what);
+    for width in WIDTHS {
+        for fault in faults::faults(width) {
+            let answer = agreed(&faults::with_faults(width, &[&fault]));
+            let needed = NEEDED.iter().any(|n| n.number == fault.number);
+            assert_eq!(answer.number, fault.number);
+            assert!(needed || answer.second == NO_PROPERTY, "{}", fault.what);
+        }
     }
 }
 

@@ -16,6 +16,7 @@ use sunderwath_tests::counts::{slot_numbers, Counts};
 use sunderwath_tests::ffi;
 use sunderwath_tests::rng::Rng;
 use sunderwath_tests::second;
+use sunderwath_tests::width::{ARM64, RISCV};
 
 const GAP: u32 = u32::MAX;
 const PATTERN: u32 = 0xDEAD_BEEF;
@@ -120,7 +121,7 @@ fn tables_by_hand() {
         (64, order::cores_swapped(), &[1, 0]),
         (32, worked::lone_socket(), &[0, 1, 2, GAP]),
         (32, order::threads_swapped(), &[0, 1, 2, GAP]),
-        (64, faults::base(), &base),
+        (64, faults::base(ARM64), &base),
         (64, order::sockets_swapped(), &base),
         (64, property_faults::base(), &[1, 0]),
         // One cpu: no bits, one entry.
@@ -296,27 +297,48 @@ fn short_answers(board: &Board, entries: usize, counts: &mut Counts) {
 fn every_earlier_number_first() {
     let mut counts = Counts::default();
     let many = many_bits();
-    for fault in faults::faults() {
-        for board in [with_faults(&[&fault]), with_faults(&[&fault, &many])] {
-            for entries in [0, 1, 7, 8, 4096, 8192] {
-                counts.add(&expect(&board, entries, fault.number, fault.place));
-            }
-            short_answers(&board, 8, &mut counts);
-        }
+    for fault in faults::faults(ARM64) {
+        counts_with(&with_faults(ARM64, &[&fault]), &fault, &mut counts);
+        counts_with(&with_faults(ARM64, &[&fault, &many]), &fault, &mut counts);
     }
     for fault in property_faults::faults() {
-        let board = Board::of(fault.width, &fault.tree());
         let needed = fault.needed;
-        for entries in [0, 1, 2, 4096] {
-            counts.add(&expect(&board, entries, needed.number, needed.record));
+        for &width in fault.widths {
+            let board = Board::of(width, &fault.tree());
+            for entries in [0, 1, 2, 4096] {
+                counts.add(&expect(&board, entries, needed.number, needed.record));
+            }
         }
     }
     for entries in [0, 1, 7, 8, 9, 4096, 8192] {
-        counts.add(&expect_sound(&with_faults(&[]), 3, entries));
-        counts.add(&expect_sound(&with_faults(&[&many]), 13, entries));
+        counts.add(&expect_sound(&with_faults(ARM64, &[]), 3, entries));
+        counts.add(&expect_sound(&with_faults(ARM64, &[&many]), 13, entries));
     }
     println!("faults and tables:\n{}", counts.lines_of(slot_numbers()));
     assert!(counts.complete() && slot_numbers().all(|number| counts.of(number) > 0));
+}
+
+/// A fault is told whatever the table's length, and 49 before it.
+fn counts_with(board: &Board, fault: &Fault, counts: &mut Counts) {
+    for entries in [0, 1, 7, 8, 4096, 8192] {
+        counts.add(&expect(board, entries, fault.number, fault.place));
+    }
+    short_answers(board, 8, counts);
+}
+
+/// The same on a RISC-V board, where 38 is never told and one entry is enough.
+#[test]
+fn every_earlier_number_first_on_harts() {
+    let mut counts = Counts::default();
+    for fault in faults::faults(RISCV) {
+        counts_with(&with_faults(RISCV, &[&fault]), &fault, &mut counts);
+    }
+    for entries in [0, 1, 2, 4096] {
+        counts.add(&expect_sound(&with_faults(RISCV, &[]), 0, entries));
+    }
+    let all = || slot_numbers().filter(|&number| number != 38);
+    println!("faults of harts:\n{}", counts.lines_of(all()));
+    assert!(all().all(|number| counts.of(number) > 0));
 }
 
 /// Answers of every length on boards of acceptance, 24, 27, 38 and 39.

@@ -6,6 +6,7 @@ use sunderwath_tests::build::mix::damaged_tables;
 use sunderwath_tests::build::worked::whole_case;
 use sunderwath_tests::build::{text, Board};
 use sunderwath_tests::rng::Rng;
+use sunderwath_tests::width::{UNKNOWN_WIDTHS, WIDTHS};
 use sunderwath_tests::{fast, ffi, second};
 
 const NONE: u32 = u32::MAX;
@@ -77,12 +78,12 @@ fn sound_tables() {
 
 #[test]
 fn widths() {
-    for width in [0, 1, 5, 31, 33, 63, 65, 128, 0x8000_0020, NONE] {
+    for width in UNKNOWN_WIDTHS.into_iter().chain([128, 0x8000_0020]) {
         let mut board = base();
         board.width = width;
         expect(&board, 1, 0);
     }
-    for width in [32, 64] {
+    for width in WIDTHS {
         let mut board = base();
         board.width = width;
         expect(&board, 0, 0);
@@ -323,7 +324,7 @@ fn repeats_and_ranges_in_one_stage() {
 fn pairs_of_faults() {
     type Fault = (u32, usize, fn(&mut Board));
     let faults: [Fault; 16] = [
-        (1, 0, |b| b.width = 5),
+        (1, 0, |b| b.width = 6),
         (2, 0, |b| b.nodes.push(0)),
         (3, 0, |b| b.props.push(0)),
         (4, 0, |b| b.pool.resize(65537, 0)),

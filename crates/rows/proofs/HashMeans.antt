@@ -1,5 +1,5 @@
 -- The hash and the slots of a board are computed as the facts have them. Assumes nothing.
-use mathlib.Core.Path.{_≡_, ap, _∙_}
+use mathlib.Core.Path.{_≡_, _∙_}
 use mathlib.Core.Logic.{⊎-elim}
 use Prim.Native.Nat.{ℕ}
 use lib.ListN.{length-map}
@@ -20,32 +20,29 @@ use Rattle.cpus.specs.answers.Check.{cpuList, regAt, regList}
 use Rattle.cpus.proofs.CpuMeans.{cpu-listing}
 use Rattle.cpus.proofs.RegMeans.{reg-affine}
 use Rattle.cpus.proofs.CpuGives.{cpu-reg}
-use Rattle.rows.specs.declared.BoardSlots.{BoardSlots}
-use Rattle.rows.specs.answers.Slots.{byHash, noSlots, slotsFor, slotBy, slotsOf, boardHash}
+use Rattle.rows.specs.answers.Slots.{slotsFor, slotBy, slotsOf, boardHash}
 use Rattle.rows.specs.facts.BoardHash.{Mpidrs, noMpidrs, BoardHash}
 use Rattle.rows.specs.facts.Fits.{SlotWord}
 
--- how slots are made, with MPIDRs and without
+-- the hash and the slots, with MPIDRs and without
 module _ (b : Board) where
-  of-mpidrs : HasMpidrs b → slotsOf b ≡ byHash (hashOf (regList b))
-  unfolding slotsFor
-  of-mpidrs has = rw (ne-eqb (b .width) riscv has)
+  module _ (has : HasMpidrs b) where
+    pub hash-by : boardHash b ≡ hashOf (regList b)
+    unfolding slotsFor
+    hash-by = rw (ne-eqb (b .width) riscv has)
 
-  of-harts : b .width ≡ riscv → slotsOf b ≡ noSlots
-  unfolding slotsFor
-  of-harts e = rw (eq-eqb (b .width) riscv e)
+    pub slot-by : (reg : ℕ) → slotBy (slotsOf b) reg ≡ slotIn (regList b) reg
+    unfolding slotsFor
+    slot-by reg = rw (ne-eqb (b .width) riscv has) (slot-guarded (maskOf (regList b)) reg)
 
-  pub hash-by : HasMpidrs b → boardHash b ≡ hashOf (regList b)
-  hash-by has = ap (λ (s : BoardSlots). s .hash) (of-mpidrs has)
+  module _ (e : b .width ≡ riscv) where
+    hash-of-harts : boardHash b ≡ noMpidrs
+    unfolding slotsFor
+    hash-of-harts = rw (eq-eqb (b .width) riscv e) empty-hash
 
-  hash-of-harts : b .width ≡ riscv → boardHash b ≡ noMpidrs
-  hash-of-harts e = ap (λ (s : BoardSlots). s .hash) (of-harts e) ∙ empty-hash
-
-  pub slot-by : HasMpidrs b → (reg : ℕ) → slotBy (slotsOf b) reg ≡ slotIn (regList b) reg
-  slot-by has reg = rw (of-mpidrs has) (slot-guarded (maskOf (regList b)) reg)
-
-  pub slot-gap : b .width ≡ riscv → (reg : ℕ) → slotBy (slotsOf b) reg ≡ gap
-  slot-gap e reg = rw (of-harts e)
+    pub slot-gap : (reg : ℕ) → slotBy (slotsOf b) reg ≡ gap
+    unfolding slotsFor
+    slot-gap reg = rw (eq-eqb (b .width) riscv e)
 
 module _ {b : Board} (sized : WordSized b) (well : WellFormed b) (sound : SoundCpus b) where
   regs-of : Mpidrs b (regList b)

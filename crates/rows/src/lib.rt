@@ -14,9 +14,9 @@ struct Placed {
     pub position: Position,
 }
 
-// How the slots of a board are made: by a hash, where there are slots; else a row has a gap there.
+// How the slots of a board are made: by its number, and by the hash of its MPIDRs.
 pub struct BoardSlots {
-    pub given: bool,
+    pub width: u32,
     pub hash: Hash,
 }
 

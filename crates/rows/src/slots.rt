@@ -3,21 +3,25 @@ use crate::BoardSlots;
 use layout::GAP;
 use tables::boards;
 ghost use mathlib.Core.Path.{_≡_};
-ghost use Rattle.rows.specs.answers.Slots.{slotsFor, slotBy};
+ghost use Rattle.rows.specs.answers.Slots.{maskFor, slotsFor, slotBy};
 
-// How the slots are made of a board of a width, whose cpus have these `reg`s. Without MPIDRs the hash is that of the empty mask.
+// The mask of MPIDRs; 0 of hart ids, of which no bit makes a slot.
+fn mask_for(width: u32, regs: &[u64]) -> u64
+    ensures { λ r. ⌜ r ≡ maskFor width (now (regs .entry)) ⌝ }
+{
+    if width == boards::RISCV {
+        return 0;
+    }
+    affinity::mask_of(regs)
+}
+
+// How the slots are made of a board of a width, whose cpus have these `reg`s.
 pub fn slots_for(width: u32, regs: &[u64]) -> BoardSlots
     ensures { λ r. ⌜ r ≡ slotsFor width (now (regs .entry)) ⌝ }
 {
-    if width == boards::RISCV {
-        return BoardSlots {
-            given: false,
-            hash: affinity::hash_of_mask(0),
-        };
-    }
     BoardSlots {
-        given: true,
-        hash: affinity::hash_of_mask(affinity::mask_of(regs)),
+        width,
+        hash: affinity::hash_of_mask(mask_for(width, regs)),
     }
 }
 
@@ -25,9 +29,9 @@ pub fn slots_for(width: u32, regs: &[u64]) -> BoardSlots
 pub fn slot_by(slots: BoardSlots, reg: u64) -> u32
     ensures { λ r. ⌜ r ≡ slotBy slots reg ⌝ }
 {
-    if slots.given {
-        let hash = slots.hash;
-        return affinity::slot_of(hash, reg);
+    if slots.width == boards::RISCV {
+        return GAP;
     }
-    GAP
+    let hash = slots.hash;
+    affinity::slot_of(hash, reg)
 }

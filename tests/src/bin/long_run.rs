@@ -15,6 +15,7 @@ use sunderwath_tests::compare_slots::{compare_slots, Lent};
 use sunderwath_tests::counts::{slot_numbers, Counts};
 use sunderwath_tests::rng::Rng;
 use sunderwath_tests::second;
+use sunderwath_tests::width::RISCV;
 
 struct Options {
     boards: u64,
@@ -82,7 +83,7 @@ fn both(board: &Board, tables: &mut Rng) -> Result<[Answer; 2], String> {
 fn run(options: &Options) -> Result<(), String> {
     let mut rng = Rng::new(options.seed);
     let mut tables = Rng::new(!options.seed);
-    let mut counts = [(); 2].map(|()| Counts::default());
+    let mut counts = [(); 3].map(|()| Counts::default());
     let start = Instant::now();
     println!("{} boards, seed {:#x}", options.boards, options.seed);
     for at in 0..options.boards {
@@ -94,13 +95,17 @@ fn run(options: &Options) -> Result<(), String> {
         let told = both(&board, &mut tables).map_err(|report| format!("board {at}:\n{report}"))?;
         counts[0].add(&told[0]);
         counts[1].add(&told[1]);
+        if board.width == RISCV {
+            counts[2].add(&told[1]);
+        }
         if (at + 1) % 250_000 == 0 {
             println!("{} boards after {:?}", at + 1, start.elapsed());
         }
     }
     println!("{}", counts[0].lines());
-    let with_tables = slot_numbers().filter(|&number| number != SHORT_ANSWER);
-    println!("with tables:\n{}", counts[1].lines_of(with_tables));
+    let with_tables = || slot_numbers().filter(|&number| number != SHORT_ANSWER);
+    println!("with tables:\n{}", counts[1].lines_of(with_tables()));
+    println!("RISC-V boards:\n{}", counts[2].lines_of(with_tables()));
     println!("no disagreement on {} boards", options.boards);
     Ok(())
 }

@@ -19,6 +19,7 @@ use sunderwath_tests::second::{flat_answer, REASONS};
 #[cfg(feature = "loader")]
 mod blob_call {
     use sunderwath_tests::answer::{Answer, SHORT_ANSWER};
+    use sunderwath_tests::build::damage::some_width;
     use sunderwath_tests::build::loader::{any_blob, some_lent, Lent};
     use sunderwath_tests::compare_blob::compare_blob;
     use sunderwath_tests::counts::{blob_numbers, Counts};
@@ -38,7 +39,8 @@ mod blob_call {
         }
 
         pub fn compare(&mut self, blob: &[u8]) -> Result<(), String> {
-            let lent = some_lent(&mut self.rng, 64, 2);
+            let width = some_width(&mut self.rng, 20);
+            let lent = some_lent(&mut self.rng, width, 2);
             self.compare_with(blob, lent)?;
             let (blob, lent) = any_blob(&mut self.rng);
             self.compare_with(&blob, lent)

@@ -4,9 +4,10 @@ use super::faults::{faults, with_faults};
 use super::order::{self, children_named};
 use super::property_faults;
 use super::shapes::{fill_up, regular_board};
-use super::worked::{self, cores, leaf, nested};
+use super::worked::{self, cores, harts, leaf, nested, SPARSE_HARTS};
 use super::{cell, Board, Node};
 use crate::rng::Rng;
+use crate::width::{ARM64, RISCV};
 
 pub type Case = (String, Board);
 
@@ -80,6 +81,7 @@ pub fn boards() -> Vec<Case> {
         orders(),
         properties(),
         cpus_node_faults().into(),
+        riscv_boards(),
     ];
     groups.into_iter().flatten().collect()
 }
@@ -196,10 +198,10 @@ fn name_limits() -> Vec<Case> {
 
 /// Every number told, each for one change to a sound board.
 fn rules() -> Vec<Case> {
-    let sound = ("no rule broken".to_string(), with_faults(&[]));
-    let broken = faults().into_iter().map(|fault| {
+    let sound = ("no rule broken".to_string(), with_faults(ARM64, &[]));
+    let broken = faults(ARM64).into_iter().map(|fault| {
         let label = format!("rule {}: {}", fault.number, fault.what);
-        (label, with_faults(&[&fault]))
+        (label, with_faults(ARM64, &[&fault]))
     });
     std::iter::once(sound).chain(broken).collect()
 }
@@ -242,7 +244,7 @@ fn properties() -> Vec<Case> {
         let of_number = faults.filter(|fault| fault.needed.number == needed.number);
         for fault in of_number.take(3) {
             let mut order = Rng::new(cases.len() as u64);
-            let board = Board::shuffled(fault.width, &fault.tree(), &mut order);
+            let board = Board::shuffled(fault.widths[0], &fault.tree(), &mut order);
             cases.push((format!("W3 {} {}", needed.name, fault.what), board));
         }
     }
@@ -259,6 +261,26 @@ fn cpus_node_faults() -> [Case; 2] {
     [
         case("W3 name and both cell counts of record 0", 64, &name),
         case("W3 both cell counts of record 0", 64, &cells),
+    ]
+}
+
+/// Boards of harts, and what stands right beside them.
+fn riscv_boards() -> Vec<Case> {
+    let sparse = harts(&SPARSE_HARTS);
+    let corrected = worked::example_3_corrected();
+    vec![
+        case("W7 example 3", RISCV, &worked::example_3()),
+        case("W7 example 3, cpu0 corrected", RISCV, &corrected),
+        case(
+            "W7 hart ids 0xffffffff and 0",
+            RISCV,
+            &harts(&[u32::MAX, 0]),
+        ),
+        case("W7 sparse harts", RISCV, &sparse),
+        case("W7 sparse harts as width 64", ARM64, &sparse),
+        case("W7 two address cells", RISCV, &cores(&[0x0, 0x1])),
+        case("W7 equal hart ids", RISCV, &harts(&[7, u32::MAX, u32::MAX])),
+        case("W7 board 4", RISCV - 1, &sparse),
     ]
 }
 
@@ -296,5 +318,9 @@ pub fn slot_boards() -> Vec<SlotCase> {
     cases.push(("W5 example 3, no entry".to_string(), example_3, 0));
     let example_1 = Board::of(64, &worked::example_1());
     cases.push(("W5 example 1".to_string(), example_1, 17));
+    for (label, entries) in [("W7 no entry", 0), ("W7 one entry and another", 2)] {
+        let board = Board::of(RISCV, &harts(&[0, u32::MAX]));
+        cases.push((label.to_string(), board, entries));
+    }
     cases
 }

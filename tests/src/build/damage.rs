@@ -3,6 +3,7 @@
 use super::property_faults::NEEDED;
 use super::{cell, Board, Node};
 use crate::rng::Rng;
+use crate::width::{UNKNOWN_WIDTHS, WIDTHS};
 
 const NAMES: [&str; 26] = [
     "cpu-map",
@@ -245,10 +246,18 @@ fn set_number(name: &mut Vec<u8>, number: usize) {
     name.extend(number.to_string().bytes());
 }
 
+/// The number of any board, and once in `n` times of none.
+pub fn some_width(rng: &mut Rng, n: usize) -> u32 {
+    match rng.one_in(n) {
+        true => *rng.pick(&UNKNOWN_WIDTHS),
+        false => *rng.pick(&WIDTHS),
+    }
+}
+
 /// One change to the tables: words, bytes, lengths, offsets.
 pub fn spoil_tables(rng: &mut Rng, board: &mut Board) {
     match rng.below(12) {
-        0 => board.width = *rng.pick(&[0, 16, 31, 32, 33, 64, 65, u32::MAX]),
+        0 => board.width = some_width(rng, 2),
         1 | 2 => spoil_word(rng, true, board),
         3 | 4 => spoil_word(rng, false, board),
         5 | 6 => spoil_byte(rng, &mut board.pool),
@@ -350,7 +359,7 @@ pub fn garbage(rng: &mut Rng) -> Board {
         (false, _) => rng.word(),
     };
     let mut board = Board {
-        width: *rng.pick(&[32, 64, 64, 5]),
+        width: some_width(rng, 4),
         nodes: (0..nodes).map(|_| word(rng)).collect(),
         props: (0..props).map(|_| word(rng)).collect(),
         pool,

@@ -2,11 +2,14 @@
 
 use super::worked::{cpu_node, cpus_node, group, leaf};
 use super::{cell, Board, Node};
+use crate::width::{most_cells, RISCV};
 use Change::{Tree, Words};
 
-/// The board that faults are made on. The record numbers are used in the
-/// table of faults.
-pub fn base() -> Node {
+/// The board that faults are made on, as one of a width, with as many address
+/// cells as that allows. The record numbers are used in the table of faults.
+pub fn base(width: u32) -> Node {
+    let cells = most_cells(width);
+    let last = if cells == 2 { 0x1_0000_0000 } else { 0x1_0000 };
     let core_0 = group("core", 0, vec![leaf("thread0", 1), leaf("thread1", 2)]);
     let cluster_0 = group("cluster", 0, vec![core_0, leaf("core1", 3)]);
     let cluster_1 = group("cluster", 1, vec![leaf("core0", 4)]);
@@ -17,16 +20,16 @@ pub fn base() -> Node {
     }
     let socket_1 = group("socket", 1, vec![deep]);
     let map = Node::new("cpu-map").child(socket_0).child(socket_1);
-    let mut spare = cpu_node(2, 0x777, 77);
+    let mut spare = cpu_node(cells, 0x777, 77);
     spare.name = b"spare".to_vec();
-    cpus_node(2)
-        .child(cpu_node(2, 0x0, 1))
-        .child(cpu_node(2, 0x1, 2))
+    cpus_node(cells)
+        .child(cpu_node(cells, 0x0, 1))
+        .child(cpu_node(cells, 0x1, 2))
         .child(map)
-        .child(cpu_node(2, 0x100, 3))
+        .child(cpu_node(cells, 0x100, 3))
         .child(Node::new("idle-states").child(Node::new("cpu-sleep")))
-        .child(cpu_node(2, 0x101, 4))
-        .child(cpu_node(2, 0x1_0000_0000, 5))
+        .child(cpu_node(cells, 0x101, 4))
+        .child(cpu_node(cells, last, 5))
         .child(spare)
 }
 
@@ -52,14 +55,14 @@ pub fn rename(root: &mut Node, record: usize, name: &str) {
 }
 
 /// The base with some faults.
-pub fn with_faults(faults: &[&Fault]) -> Board {
-    let mut root = base();
+pub fn with_faults(width: u32, faults: &[&Fault]) -> Board {
+    let mut root = base(width);
     for fault in faults {
         if let Tree(change) = fault.change {
             change(&mut root);
         }
     }
-    let mut board = Board::of(64, &root);
+    let mut board = Board::of(width, &root);
     for fault in faults {
         if let Words(change) = fault.change {
             change(&mut board);
@@ -68,15 +71,22 @@ pub fn with_faults(faults: &[&Fault]) -> Board {
     board
 }
 
+/// Gives a cpu the `reg` of another.
+fn copy_reg(root: &mut Node, from: usize, to: usize) {
+    let reg = root.at(from).get("reg").map(<[u8]>::to_vec);
+    root.at(to).set("reg", reg.expect("it has one"));
+}
+
 /// One fault or more for each number.
-pub fn faults() -> Vec<Fault> {
+pub fn faults(width: u32) -> Vec<Fault> {
     let fault = |(number, place, what, change)| Fault {
         number,
         place,
         what,
         change,
     };
-    let mut rows = [of_tables(), of_cpus(), of_map()].concat();
+    let cpus = [of_cpus_node(), of_regs(width), of_cpus()].concat();
+    let mut rows = [of_tables(), cpus, of_map()].concat();
     rows.sort_by_key(|row| row.0);
     rows.into_iter().map(fault).collect()
 }
@@ -131,10 +141,8 @@ fn of_tables() -> Vec<Row> {
     ]
 }
 
-fn of_cpus() -> Vec<Row> {
-    let bad_bits: fn(&mut Node) = |r| r.at(19).set("reg", [0, 0, 1, 0, 0, 0, 1, 0]);
+fn of_cpus_node() -> Vec<Row> {
     let no_cpus: fn(&mut Node) = |r| CPU_RECORDS.iter().for_each(|&c| rename(r, c, "x"));
-    let repeated: fn(&mut Node) = |r| r.at(23).set("reg", [0, 0, 0, 0, 0, 0, 0, 1]);
     vec![
         (9, 0, "record 0 named cpu", Tree(|r| rename(r, 0, "cpu"))),
         (
@@ -150,6 +158,48 @@ fn of_cpus() -> Vec<Row> {
             Tree(|r| r.set("#size-cells", cell(1))),
         ),
         (10, 0, "no cpu record", Tree(no_cpus)),
+    ]
+}
+
+/// 12 and 13. A hart id may have any bits.
+fn of_regs(width: u32) -> Vec<Row> {
+    const OUTSIDE: &str = "reg with a bit outside";
+    let bad_pair: fn(&mut Node) = |r| r.at(19).set("reg", [0, 0, 1, 0, 0, 0, 1, 0]);
+    let mut rows = match most_cells(width) {
+        2 => vec![
+            (
+                12,
+                1,
+                "reg of one cell where two are asked",
+                Tree(|r| r.at(1).set("reg", [0; 4])),
+            ),
+            (12, 19, OUTSIDE, Tree(bad_pair)),
+        ],
+        _ => vec![
+            (
+                12,
+                1,
+                "reg of two cells where one is asked",
+                Tree(|r| r.at(1).set("reg", [0; 8])),
+            ),
+            (12, 19, OUTSIDE, Tree(|r| r.at(19).set("reg", [1, 0, 1, 0]))),
+        ],
+    };
+    rows.retain(|row| width != RISCV || row.2 != OUTSIDE);
+    rows.extend([
+        (13, 2, "reg of the cpu before", Tree(|r| copy_reg(r, 1, 2))),
+        (
+            13,
+            23,
+            "reg of a cpu further up",
+            Tree(|r| copy_reg(r, 2, 23)),
+        ),
+    ]);
+    rows
+}
+
+fn of_cpus() -> Vec<Row> {
+    vec![
         (
             11,
             1,
@@ -162,20 +212,6 @@ fn of_cpus() -> Vec<Row> {
             "device_type cpus",
             Tree(|r| r.at(22).set("device_type", b"cpus\0")),
         ),
-        (
-            12,
-            1,
-            "reg of one cell where two are asked",
-            Tree(|r| r.at(1).set("reg", [0; 4])),
-        ),
-        (12, 19, "reg with a bit outside", Tree(bad_bits)),
-        (
-            13,
-            2,
-            "reg of the cpu before",
-            Tree(|r| r.at(2).set("reg", [0; 8])),
-        ),
-        (13, 23, "reg of a cpu further up", Tree(repeated)),
         (
             17,
             1,

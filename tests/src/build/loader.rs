@@ -1,7 +1,7 @@
 //! What is lent to the blob call, and the mixture of blobs that it is compared
 //! on: boards as blobs, sound and damaged in the tree, the tokens and the bytes.
 
-use super::damage::spoil_tree;
+use super::damage::{some_width, spoil_tree};
 use super::flat::items;
 use super::flat_form::write;
 use super::flat_mix::{add_nops, any_case, some_form, spoil_bytes, spoil_items};
@@ -63,16 +63,17 @@ impl Lent {
 /// A blob of any sort. Most are boards; one of four need not be a stream.
 pub fn any_blob(rng: &mut Rng) -> (Vec<u8>, Lent) {
     let (width, blob, cpus) = match rng.below(4) {
-        0 => (64, any_case(rng).blob, rng.below(4)),
+        0 => (some_width(rng, 20), any_case(rng).blob, rng.below(4)),
         _ => board_blob(rng),
     };
     (blob, some_lent(rng, width, cpus))
 }
 
-/// What is lent for a blob of a width and about so many cpus.
+/// What is lent for a blob of a width and about so many cpus. At times the width
+/// is that of another board or of none.
 pub fn some_lent(rng: &mut Rng, width: u32, cpus: usize) -> Lent {
-    let width = match rng.below(16) {
-        0 => *rng.pick(&[0, 1, 31, 33, 63, 65, 96, 0x4000_0000, u32::MAX]),
+    let width = match rng.below(12) {
+        0 => some_width(rng, 2),
         _ => width,
     };
     Lent {

@@ -7,6 +7,7 @@ use super::shapes::fill_up;
 use super::worked::{cpus_node, whole_case};
 use super::{Board, Node};
 use crate::answer::Answer;
+use crate::width::{ARM64, WIDTHS};
 
 /// A cpus node that is refused when read with a width.
 pub struct TreeFault {
@@ -18,37 +19,50 @@ pub struct TreeFault {
 
 impl TreeFault {
     fn new(number: u32, place: usize, what: &str, cpus: Node) -> TreeFault {
-        let second = second_place(&Board::of(64, &cpus), number, place);
+        let second = second_place(&Board::of(ARM64, &cpus), number, place);
         TreeFault {
             answer: Answer::refusal(number, place).of_property(second),
-            width: 64,
+            width: ARM64,
             what: what.to_string(),
             cpus,
         }
     }
+
+    fn on(self, width: u32) -> TreeFault {
+        TreeFault { width, ..self }
+    }
 }
 
-/// Faults of all numbers from 5 to 26, 36 and 37 that a blob can have.
+/// Faults of all numbers from 5 to 26, 36 and 37 that a blob can have, on each
+/// board.
 pub fn tree_faults() -> Vec<TreeFault> {
-    let mut list = of_names();
-    list.extend(of_repeats());
-    list.extend(of_counts());
-    for fault in faults() {
-        // A node of another name is not the one that is read.
-        if let (Change::Tree(change), true) = (fault.change, fault.number != 9) {
-            let mut cpus = base();
-            change(&mut cpus);
-            list.push(TreeFault::new(fault.number, fault.place, fault.what, cpus));
-        }
+    let mut list = Vec::new();
+    for width in WIDTHS {
+        let of_all = [of_names(), of_repeats(), of_counts(), of_base(width)];
+        let of_all = of_all.into_iter().flatten();
+        list.extend(of_all.map(|fault| fault.on(width)));
     }
     for fault in property_faults::faults() {
         let needed = fault.needed;
         let what = format!("{} {}", needed.name, fault.what);
-        let told = TreeFault::new(needed.number, needed.record, &what, fault.tree());
-        list.push(TreeFault {
-            width: fault.width,
-            ..told
-        });
+        let told = |&width: &u32| {
+            TreeFault::new(needed.number, needed.record, &what, fault.tree()).on(width)
+        };
+        list.extend(fault.widths.iter().map(told));
+    }
+    list
+}
+
+/// The faults made on one board.
+fn of_base(width: u32) -> Vec<TreeFault> {
+    let mut list = Vec::new();
+    for fault in faults(width) {
+        // A node of another name is not the one that is read.
+        if let (Change::Tree(change), true) = (fault.change, fault.number != 9) {
+            let mut cpus = base(width);
+            change(&mut cpus);
+            list.push(TreeFault::new(fault.number, fault.place, fault.what, cpus));
+        }
     }
     list
 }

@@ -1,7 +1,7 @@
 //! The mixture of boards that the gate and the long run compare.
 
-use super::damage::{garbage, repeat, spoil_tables, spoil_tree};
-use super::shapes::{fill_up, regular_board, valid_board};
+use super::damage::{garbage, repeat, some_width, spoil_tables, spoil_tree};
+use super::shapes::{fill_up, regular_board_of, valid_board};
 use super::{Board, Node, FULL_ROOM};
 use crate::rng::Rng;
 
@@ -29,6 +29,10 @@ pub fn any_board(rng: &mut Rng) -> Board {
     }
     let mut board = lay_out(rng, width, &root);
     board.room = some_room(rng, &root);
+    if rng.one_in(12) {
+        // A tree of one board read as another.
+        board.width = some_width(rng, 8);
+    }
     for _ in 0..in_tables {
         spoil_tables(rng, &mut board);
     }
@@ -86,9 +90,9 @@ pub fn damaged_tables(rng: &mut Rng) -> Board {
         spoil_tables(rng, &mut board);
     }
     if rng.one_in(500) {
-        let mut large = regular_board(16);
+        let mut large = regular_board_of(width, 16);
         fill_up(&mut large, rng.between(1020, 1026), rng.between(4090, 4099));
-        board = Board::of(64, &large);
+        board = Board::of(width, &large);
         board.pool.resize(rng.between(65530, 65540), 0);
     }
     if rng.one_in(10) && board.prop_count() > 1 {

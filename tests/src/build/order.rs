@@ -3,6 +3,7 @@
 use super::faults::{self, rename};
 use super::worked::{self, cores};
 use super::Node;
+use crate::width::ARM64;
 
 fn renamed(mut root: Node, names: [(usize, &str); 2]) -> Node {
     for (record, name) in names {
@@ -23,7 +24,7 @@ pub fn clusters_swapped() -> Node {
 
 /// The board that faults are made on, width 64, with `socket1` before `socket0`.
 pub fn sockets_swapped() -> Node {
-    renamed(faults::base(), [(4, "socket1"), (12, "socket0")])
+    renamed(faults::base(ARM64), [(4, "socket1"), (12, "socket0")])
 }
 
 /// The lone socket, width 32, with `thread1` before `thread0`.

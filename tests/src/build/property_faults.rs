@@ -4,6 +4,7 @@
 use super::worked::whole_case;
 use super::{cell, Board, Node};
 use crate::answer::NO_PROPERTY;
+use crate::width::{ARM32, ARM64, RISCV};
 
 /// A number with the property that it speaks of, and the record where `faults`
 /// break it.
@@ -60,7 +61,8 @@ pub fn base() -> Node {
 /// A property of `base` that is missing, or has a wrong value.
 pub struct PropertyFault {
     pub needed: &'static Needed,
-    pub width: u32,
+    /// The boards on which it is a fault.
+    pub widths: &'static [u32],
     pub what: &'static str,
     pub value: Option<&'static [u8]>,
 }
@@ -87,7 +89,7 @@ pub fn faults() -> Vec<PropertyFault> {
     let of = |needed: &'static Needed| {
         let fault = move |&(what, value)| PropertyFault {
             needed,
-            width: if what == TWO_CELLS { 32 } else { 64 },
+            widths: widths(what),
             what,
             value,
         };
@@ -97,6 +99,21 @@ pub fn faults() -> Vec<PropertyFault> {
 }
 
 const TWO_CELLS: &str = "2 on width 32";
+const TWO_CELLS_OF_A_HART: &str = "2 on a RISC-V board";
+
+/// Values of `reg` that a hart may have.
+const HIGH_BIT: &str = "with a bit outside the affinity bits";
+const HIGHEST_BIT: &str = "with bit 31";
+const ONES: &str = "of ones";
+
+fn widths(what: &str) -> &'static [u32] {
+    match what {
+        TWO_CELLS => &[ARM32],
+        TWO_CELLS_OF_A_HART => &[RISCV],
+        HIGH_BIT | HIGHEST_BIT | ONES => &[ARM64, ARM32],
+        _ => &[ARM64, ARM32, RISCV],
+    }
+}
 
 type Value = (&'static str, Option<&'static [u8]>);
 
@@ -111,7 +128,7 @@ fn values(number: u32) -> &'static [Value] {
     }
 }
 
-const ADDRESS_CELLS: [Value; 10] = [
+const ADDRESS_CELLS: [Value; 11] = [
     ("missing", None),
     ("of three bytes", Some(&[0, 0, 1])),
     (TWO_CELLS, Some(&[0, 0, 0, 2])),
@@ -122,6 +139,7 @@ const ADDRESS_CELLS: [Value; 10] = [
     ("3", Some(&[0, 0, 0, 3])),
     ("with a higher byte", Some(&[0, 0, 1, 1])),
     ("little-endian", Some(&[1, 0, 0, 0])),
+    (TWO_CELLS_OF_A_HART, Some(&[0, 0, 0, 2])),
 ];
 
 const SIZE_CELLS: [Value; 7] = [
@@ -147,12 +165,12 @@ const DEVICE_TYPES: [Value; 7] = [
 const REGS: [Value; 8] = [
     ("missing", None),
     ("of two cells", Some(&[0, 0, 0, 0, 0, 0, 1, 0])),
-    ("with a bit outside the affinity bits", Some(&[1, 0, 1, 0])),
+    (HIGH_BIT, Some(&[1, 0, 1, 0])),
     ("of no bytes", Some(&[])),
     ("of three bytes", Some(&[0, 1, 0])),
     ("of five bytes", Some(&[0, 0, 1, 0, 0])),
-    ("with bit 31", Some(&[0x80, 0, 1, 0])),
-    ("of ones", Some(&[0xFF; 4])),
+    (HIGHEST_BIT, Some(&[0x80, 0, 1, 0])),
+    (ONES, Some(&[0xFF; 4])),
 ];
 
 const PHANDLES: [Value; 8] = [

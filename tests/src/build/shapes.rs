@@ -4,6 +4,7 @@ use super::property_faults::NEEDED;
 use super::worked::{cpu_node, cpus_node};
 use super::{cell, Node};
 use crate::rng::Rng;
+use crate::width::{most_cells, ARM64, RISCV, WIDTHS};
 
 /// Nodes outside the map that break no rule.
 const OTHER_NAMES: [&str; 12] = [
@@ -34,8 +35,13 @@ const OTHER_PROPS: [&str; 8] = [
 
 /// A board that must be accepted: its width and tree.
 pub fn valid_board(rng: &mut Rng, most_cpus: usize) -> (u32, Node) {
-    let width = if rng.one_in(2) { 32 } else { 64 };
-    let cells = if width == 64 && rng.one_in(2) { 2 } else { 1 };
+    let width = *rng.pick(&WIDTHS);
+    (width, valid_tree(rng, width, most_cpus))
+}
+
+/// The tree of a board of a width that must be accepted.
+pub fn valid_tree(rng: &mut Rng, width: u32, most_cpus: usize) -> Node {
+    let cells = rng.between(1, most_cells(width) as usize) as u32;
     let budget = rng.between(1, most_cpus);
     let mut map = Node::new("cpu-map");
     map.children = map_children(rng, budget);
@@ -46,9 +52,15 @@ pub fn valid_board(rng: &mut Rng, most_cpus: usize) -> (u32, Node) {
     for (leaf, phandle) in leaves.into_iter().zip(&phandles) {
         leaf.set("cpu", cell(*phandle));
     }
-    let mut cpus = cpu_nodes(rng, cells, &phandles);
+    let regs = match width {
+        RISCV => distinct(rng, count, some_hart),
+        _ => distinct(rng, count, |rng, style, at| {
+            some_mpidr(rng, style, cells, at)
+        }),
+    };
+    let mut cpus = cpu_nodes(rng, cells, &regs, &phandles);
     rng.shuffle(&mut cpus);
-    (width, assemble(rng, cells, map, cpus))
+    assemble(rng, cells, map, cpus)
 }
 
 /// Parts of a budget, each at least 1.
@@ -161,18 +173,37 @@ fn some_mpidr(rng: &mut Rng, style: usize, cells: u32, at: u64) -> u64 {
     mpidr & wide
 }
 
-fn cpu_nodes(rng: &mut Rng, cells: u32, phandles: &[u32]) -> Vec<Node> {
-    let style = rng.below(5);
-    let mut mpidrs: Vec<u64> = Vec::new();
-    while mpidrs.len() < phandles.len() {
-        let mut next = some_mpidr(rng, style, cells, mpidrs.len() as u64);
-        while mpidrs.contains(&next) {
-            next = some_mpidr(rng, 4, cells, 0);
+/// A hart id in one of several styles: any 32 bits may be set.
+fn some_hart(rng: &mut Rng, style: usize, at: u64) -> u64 {
+    let hart = match style {
+        0 => at as u32,
+        1 => u32::MAX - at as u32,
+        2 => (at as u32).rotate_right(8),
+        3 => 1u32.rotate_left(at as u32) | (at as u32 >> 5) << 8,
+        _ => rng.word(),
+    };
+    u64::from(hart)
+}
+
+/// As many values of one style as asked for, all different. The last style is
+/// that of any value.
+fn distinct(rng: &mut Rng, count: usize, some: impl Fn(&mut Rng, usize, u64) -> u64) -> Vec<u64> {
+    const STYLES: usize = 5;
+    let style = rng.below(STYLES);
+    let mut values: Vec<u64> = Vec::new();
+    while values.len() < count {
+        let mut next = some(rng, style, values.len() as u64);
+        while values.contains(&next) {
+            next = some(rng, STYLES - 1, 0);
         }
-        mpidrs.push(next);
+        values.push(next);
     }
-    let build = |(&mpidr, &phandle)| {
-        let mut cpu = cpu_node(cells, mpidr, phandle);
+    values
+}
+
+fn cpu_nodes(rng: &mut Rng, cells: u32, regs: &[u64], phandles: &[u32]) -> Vec<Node> {
+    let build = |(&reg, &phandle)| {
+        let mut cpu = cpu_node(cells, reg, phandle);
         match rng.below(12) {
             0 => cpu.name = b"cpu".to_vec(),
             1 => cpu.name = b"cpu@".to_vec(),
@@ -180,7 +211,7 @@ fn cpu_nodes(rng: &mut Rng, cells: u32, phandles: &[u32]) -> Vec<Node> {
         }
         cpu
     };
-    mpidrs.iter().zip(phandles).map(build).collect()
+    regs.iter().zip(phandles).map(build).collect()
 }
 
 /// Puts the map before, after or among the cpu nodes, and adds other nodes.
@@ -276,6 +307,12 @@ pub fn fill_up(root: &mut Node, records: usize, props: usize) {
 
 /// A board with a given number of cpus in clusters of four cores, width 64.
 pub fn regular_board(cpus: usize) -> Node {
+    regular_board_of(ARM64, cpus)
+}
+
+/// The same as a board of a width, with as many address cells as it allows.
+pub fn regular_board_of(width: u32, cpus: usize) -> Node {
+    let cells = most_cells(width);
     let mut map = Node::new("cpu-map");
     let mut nodes = Vec::new();
     for at in 0..cpus {
@@ -286,13 +323,17 @@ pub fn regular_board(cpus: usize) -> Node {
         let phandle = at as u32 + 1;
         let leaf = super::worked::leaf(&format!("core{core}"), phandle);
         map.children[cluster].children.push(leaf);
-        let mpidr = (cluster << 8 | core) as u64;
-        let cpu = cpu_node(2, mpidr, phandle)
-            .with("compatible", b"arm,cortex-a53\0")
-            .with("enable-method", b"psci\0");
+        let cpu = match width {
+            RISCV => cpu_node(cells, at as u64, phandle)
+                .with("compatible", b"sifive,u74-mc\0riscv\0")
+                .with("riscv,isa", b"rv64imafdc\0"),
+            _ => cpu_node(cells, (cluster << 8 | core) as u64, phandle)
+                .with("compatible", b"arm,cortex-a53\0")
+                .with("enable-method", b"psci\0"),
+        };
         nodes.push(cpu);
     }
-    let mut root = cpus_node(2).child(map);
+    let mut root = cpus_node(cells).child(map);
     root.children.extend(nodes);
     root
 }

@@ -3,9 +3,10 @@
 
 use super::damage::spoil_tree;
 use super::mix::any_board;
-use super::shapes::valid_board;
+use super::shapes::valid_tree;
 use super::{Board, Node};
 use crate::rng::Rng;
+use crate::width::ARM_WIDTHS;
 
 /// Where the affinity levels begin; each has eight bits.
 const BEGINS: [u32; 4] = [0, 8, 16, 32];
@@ -13,11 +14,13 @@ const BEGINS: [u32; 4] = [0, 8, 16, 32];
 /// The bits that all levels have.
 pub const ALL_BITS: u32 = 32;
 
-/// A sound board of all shapes with so many bits, and 1 cpu exactly for no bits.
+/// A sound ARM board of all shapes with so many bits, and 1 cpu exactly for no
+/// bits.
 pub fn board_with_bits(rng: &mut Rng, bits: u32, most_cpus: usize) -> (u32, Node) {
     let most = if bits < 8 { 1 << bits } else { 256 };
     loop {
-        let (width, mut root) = valid_board(rng, most_cpus.min(most));
+        let width = *rng.pick(&ARM_WIDTHS);
+        let mut root = valid_tree(rng, width, most_cpus.min(most));
         let cpus = cpu_children(&root);
         let cells = root.children[cpus[0]].get("reg").map_or(0, <[u8]>::len) / 4;
         let enough_levels = cells == 2 || bits <= 24;

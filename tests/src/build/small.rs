@@ -2,6 +2,7 @@
 
 use super::worked::{cpu_node, cpus_node};
 use super::{cell, Board, Node};
+use crate::width::RISCV;
 
 pub const NAMES: [&str; 8] = [
     "socket0", "cluster0", "cluster1", "core0", "core1", "thread0", "thread1", "x",
@@ -50,23 +51,29 @@ fn subtree(parents: &[Option<usize>], nodes: &[Node], parent: Option<usize>) -> 
     children.map(build).collect()
 }
 
-fn board(parents: &[Option<usize>], nodes: &[Node], cpus: usize) -> Board {
+/// One address cell; hart ids fall from the highest, MPIDRs rise from 0.
+fn board(width: u32, parents: &[Option<usize>], nodes: &[Node], cpus: usize) -> Board {
     let map = Node {
         children: subtree(parents, nodes, None),
         ..Node::new("cpu-map")
     };
     let mut root = cpus_node(1).child(map);
     for at in 0..cpus {
-        root.children.push(cpu_node(1, at as u64, at as u32 + 1));
+        let reg = match width {
+            RISCV => u32::MAX - at as u32,
+            _ => at as u32,
+        };
+        root.children
+            .push(cpu_node(1, u64::from(reg), at as u32 + 1));
     }
-    let mut board = Board::of(64, &root);
+    let mut board = Board::of(width, &root);
     board.room = 12 * cpus;
     board
 }
 
 /// Calls `job` with every map of `count` records in which the childless ones
 /// name the cpus in order.
-pub fn maps_in_order(count: usize, job: &mut dyn FnMut(Board)) {
+pub fn maps_in_order(width: u32, count: usize, job: &mut dyn FnMut(Board)) {
     for parents in parent_lists(count) {
         let is_parent = |at: usize| parents.contains(&Some(at));
         let ends = (0..count).filter(|&at| !is_parent(at)).count();
@@ -81,14 +88,14 @@ pub fn maps_in_order(count: usize, job: &mut dyn FnMut(Board)) {
                 }
                 nodes.push(node);
             }
-            job(board(&parents, &nodes, ends.max(1)));
+            job(board(width, &parents, &nodes, ends.max(1)));
         }
     }
 }
 
 /// Calls `job` with every map of `count` records and every choice of `cpu`:
 /// missing, one of two cpus, or unknown; on boards of one and of two cpus.
-pub fn maps_with_choices(count: usize, job: &mut dyn FnMut(Board)) {
+pub fn maps_with_choices(width: u32, count: usize, job: &mut dyn FnMut(Board)) {
     const CHOICES: usize = 4;
     for parents in parent_lists(count) {
         for choice in 0..NAMES.len().pow(count as u32) {
@@ -100,8 +107,8 @@ pub fn maps_with_choices(count: usize, job: &mut dyn FnMut(Board)) {
                     _ => Node::new(NAMES[name]).with("cpu", cell(phandle as u32)),
                 };
                 let nodes: Vec<Node> = names.zip(phandles).map(build).collect();
-                job(board(&parents, &nodes, 1));
-                job(board(&parents, &nodes, 2));
+                job(board(width, &parents, &nodes, 1));
+                job(board(width, &parents, &nodes, 2));
             }
         }
     }

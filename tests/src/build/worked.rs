@@ -134,15 +134,28 @@ pub fn example_3_without_phandle() -> Node {
     cpus
 }
 
-/// One cluster of childless cores with these MPIDRs.
+/// One cluster of childless cores with these MPIDRs, of two cells.
 pub fn cores(mpidrs: &[u64]) -> Node {
-    let leaves = (0..mpidrs.len())
+    cores_of(2, mpidrs)
+}
+
+/// The same with these hart ids, of one cell.
+pub fn harts(ids: &[u32]) -> Node {
+    let ids: Vec<u64> = ids.iter().copied().map(u64::from).collect();
+    cores_of(1, &ids)
+}
+
+/// Hart ids with gaps between them; three have bits that no MPIDR has.
+pub const SPARSE_HARTS: [u32; 5] = [0, 5, 0x8000_0000, 0x0100_0000, 0xFF00_0000];
+
+fn cores_of(cells: u32, regs: &[u64]) -> Node {
+    let leaves = (0..regs.len())
         .map(|at| leaf(&format!("core{at}"), at as u32 + 1))
         .collect();
     let map = Node::new("cpu-map").child(group("cluster", 0, leaves));
-    let mut root = cpus_node(2).child(map);
-    for (at, &mpidr) in mpidrs.iter().enumerate() {
-        root.children.push(cpu_node(2, mpidr, at as u32 + 1));
+    let mut root = cpus_node(cells).child(map);
+    for (at, &reg) in regs.iter().enumerate() {
+        root.children.push(cpu_node(cells, reg, at as u32 + 1));
     }
     root
 }

@@ -3,11 +3,14 @@
 use super::hash::{layout, slot};
 use super::tables::{check, slice};
 use crate::answer::{Answer, NO_PROPERTY};
+use crate::width::{ARM64, RISCV};
 
 const GAP: u32 = u32::MAX;
 const NONE: u32 = u32::MAX;
 const CPU_LIMIT: usize = 256;
 const ROW_WORDS: usize = 12;
+const SLOT_WORD: usize = 11;
+const AFFINITY: u64 = 0xFF_00FF_FFFF;
 
 #[derive(Clone, Copy, PartialEq, Eq)]
 enum Kind {
@@ -38,6 +41,7 @@ struct Node {
 
 struct Cpu {
     record: u32,
+    /// The MPIDR, or the hart id of a RISC-V board.
     mpidr: u64,
     phandle: u32,
     named: bool,
@@ -146,7 +150,7 @@ impl<'a> Reader<'a> {
             return Err(Answer::refusal(9, 0));
         }
         let cells = self.value(self.address_cells).and_then(cell).unwrap_or(0);
-        let most = if width == 32 { 1 } else { 2 };
+        let most = if width == ARM64 { 2 } else { 1 };
         if cells == 0 || cells > most {
             return Err(Answer::refusal(36, 0).of_property(self.address_cells));
         }
@@ -177,23 +181,24 @@ impl<'a> Reader<'a> {
         Ok(())
     }
 
-    fn reg(&self, prop: u32, cells: usize) -> Option<u64> {
+    /// The value of a `reg` of so many cells with no bit outside of these.
+    fn reg(&self, prop: u32, cells: usize, bits: u64) -> Option<u64> {
         let value = self.value(prop).filter(|v| v.len() == 4 * cells)?;
         let mut wide = [0; 8];
         wide[8 - value.len()..].copy_from_slice(value);
         let mpidr = u64::from_be_bytes(wide);
-        (mpidr & !0xFF_00FF_FFFF == 0).then_some(mpidr)
+        (mpidr & !bits == 0).then_some(mpidr)
     }
 
     /// 11 to 13.
-    fn read_cpu_nodes(&mut self, cells: usize) -> Result<(), Answer> {
+    fn read_cpu_nodes(&mut self, cells: usize, bits: u64) -> Result<(), Answer> {
         for at in 0..self.cpus.len() {
             let record = self.cpus[at].record as usize;
             let fact = &self.facts[record];
             if self.value(fact.device_type) != Some(b"cpu\0") {
                 return Err(Answer::refusal(11, record).of_property(fact.device_type));
             }
-            let Some(mpidr) = self.reg(fact.reg, cells) else {
+            let Some(mpidr) = self.reg(fact.reg, cells, bits) else {
                 return Err(Answer::refusal(12, record).of_property(fact.reg));
             };
             if self.cpus[..at].iter().any(|cpu| cpu.mpidr == mpidr) {
@@ -354,6 +359,29 @@ impl<'a> Reader<'a> {
         }
     }
 
+    /// The rows and the answer of an accepted board. Hart ids have no hash: the
+    /// mask is empty, and no row has a slot.
+    fn write(&self, width: u32, rows: &mut [u32]) -> Answer {
+        let (first, count) = (self.cpus[0].mpidr, self.cpus.len());
+        let mask = match width {
+            RISCV => 0,
+            _ => self.cpus.iter().fold(0, |m, cpu| m | cpu.mpidr ^ first),
+        };
+        let (shifts, bits) = layout(mask);
+        self.write_rows(mask, &shifts, rows);
+        if width == RISCV {
+            let written = rows.chunks_exact_mut(ROW_WORDS).take(count);
+            written.for_each(|row| row[SLOT_WORD] = GAP);
+        }
+        Answer {
+            count: count as u32,
+            mask,
+            shifts,
+            bits,
+            ..Answer::default()
+        }
+    }
+
     fn write_rows(&self, mask: u64, shifts: &[u32; 4], rows: &mut [u32]) {
         let leaves = self.facts.iter().enumerate().filter(|(_, fact)| {
             fact.in_map
@@ -410,7 +438,8 @@ fn read(
     let mut reader = Reader::new(nodes, props, pool);
     let cells = reader.read_cpus_node(width)?;
     reader.list_cpus()?;
-    reader.read_cpu_nodes(cells)?;
+    let bits = if width == RISCV { u64::MAX } else { AFFINITY };
+    reader.read_cpu_nodes(cells, bits)?;
     reader.find_map()?;
     reader.read_phandles()?;
     reader.read_shape();
@@ -418,15 +447,5 @@ fn read(
     if rows.len() < ROW_WORDS * reader.cpus.len() {
         return Err(Answer::refusal(27, 0));
     }
-    let first = reader.cpus[0].mpidr;
-    let mask = reader.cpus.iter().fold(0, |m, cpu| m | cpu.mpidr ^ first);
-    let (shifts, bits) = layout(mask);
-    reader.write_rows(mask, &shifts, rows);
-    Ok(Answer {
-        count: reader.cpus.len() as u32,
-        mask,
-        shifts,
-        bits,
-        ..Answer::default()
-    })
+    Ok(reader.write(width, rows))
 }

@@ -1,6 +1,7 @@
 //! Rules 1 to 8 in one pass over each table, and a lookup that stops at its match.
 
 use crate::answer::Answer;
+use crate::width::{ARM32, ARM64, RISCV};
 
 const NODE_LIMIT: usize = 1024;
 const PROP_LIMIT: usize = 4096;
@@ -26,7 +27,7 @@ pub fn check_tables(width: u32, nodes: &[u32], props: &[u32], pool: &[u8]) -> An
 pub(super) fn check(width: u32, nodes: &[u32], props: &[u32], pool: &[u8]) -> Result<(), Answer> {
     let fail = |number| Err(Answer::refusal(number, 0));
     let count = nodes.len() / 3;
-    if width != 32 && width != 64 {
+    if !matches!(width, ARM32 | ARM64 | RISCV) {
         return fail(1);
     }
     if !nodes.len().is_multiple_of(3) || count == 0 || count > NODE_LIMIT {

@@ -4,6 +4,7 @@ use super::hash;
 use super::rules::{reg, told};
 use super::tables::{Kind, Tables};
 use crate::answer::Answer;
+use crate::width::RISCV;
 
 const GAP: u32 = u32::MAX;
 const NO_RULE_AFTER: u32 = 27;
@@ -13,17 +14,53 @@ pub fn read(tables: &Tables) -> (Answer, Vec<u32>) {
     if let Some(refusal) = told(tables, NO_RULE_AFTER) {
         return (refusal, Vec::new());
     }
-    let mpidrs: Vec<u64> = tables.cpus().iter().map(|&c| mpidr(tables, c)).collect();
-    let mask = hash::mask(&mpidrs);
+    let slots = Slots::of(tables);
     let answer = Answer {
         count: tables.cpus().len() as u32,
-        ..hash::accepted(mask)
+        ..slots.accepted()
     };
     let rows = (1..tables.node_count())
         .filter(|&r| tables.is_leaf(r))
-        .flat_map(|leaf| row(tables, mask, leaf))
+        .flat_map(|leaf| row(tables, &slots, leaf))
         .collect();
     (answer, rows)
+}
+
+/// Where slots come from: there is no MPIDR on a RISC-V board, and so no slot.
+enum Slots {
+    Mask(u64),
+    Gaps,
+}
+
+impl Slots {
+    fn of(tables: &Tables) -> Slots {
+        if tables.width == RISCV {
+            return Slots::Gaps;
+        }
+        let mpidrs: Vec<u64> = tables.cpus().iter().map(|&c| mpidr(tables, c)).collect();
+        Slots::Mask(hash::mask(&mpidrs))
+    }
+
+    /// Mask, shifts and bits of an accepted board.
+    fn accepted(&self) -> Answer {
+        match *self {
+            Slots::Mask(mask) => hash::accepted(mask),
+            Slots::Gaps => Answer {
+                mask: 0,
+                shifts: [0, 8, 16, 32],
+                bits: 0,
+                ..Answer::default()
+            },
+        }
+    }
+
+    /// Word 11 of the row of a cpu record.
+    fn slot(&self, tables: &Tables, cpu: usize) -> u32 {
+        match *self {
+            Slots::Mask(mask) => hash::slot(mask, mpidr(tables, cpu)),
+            Slots::Gaps => GAP,
+        }
+    }
 }
 
 fn mpidr(tables: &Tables, cpu: usize) -> u64 {
@@ -43,7 +80,7 @@ fn ancestor_numbers(tables: &Tables, leaf: usize, kind: Kind) -> Vec<u32> {
     numbers
 }
 
-fn row(tables: &Tables, mask: u64, leaf: usize) -> [u32; 12] {
+fn row(tables: &Tables, slots: &Slots, leaf: usize) -> [u32; 12] {
     let cpu = tables.cpu_of(leaf).expect("rule 24 holds");
     let (upper, lower) = reg(tables, cpu).expect("rule 12 holds");
     let (kind, number) = tables.topology(leaf).expect("a leaf has a topology name");
@@ -59,7 +96,7 @@ fn row(tables: &Tables, mask: u64, leaf: usize) -> [u32; 12] {
     };
     let clusters = ancestor_numbers(tables, leaf, Kind::Cluster);
     let path = [0, 1, 2, 3].map(|depth| clusters.get(depth).copied().unwrap_or(GAP));
-    let slot = hash::slot(mask, mpidr(tables, cpu));
+    let slot = slots.slot(tables, cpu);
     let [c0, c1, c2, c3] = path;
     let socket = first(Kind::Socket);
     [

@@ -4,6 +4,7 @@
 use super::second_place::refusal;
 use super::tables::{cells, Kind, Tables};
 use crate::answer::Answer;
+use crate::width::{ARM64, RISCV, WIDTHS};
 use std::ops::RangeInclusive;
 
 /// Which places a stage looks at.
@@ -69,7 +70,7 @@ fn places_of<'t>(tables: &'t Tables, places: Places) -> Box<dyn Iterator<Item = 
 /// Whether `place` breaks rule `number`. Asked when no earlier stage is broken.
 pub fn breaks(t: &Tables, number: u32, place: usize) -> bool {
     match number {
-        1 => t.width != 32 && t.width != 64,
+        1 => !WIDTHS.contains(&t.width),
         2 => !t.whole_nodes() || !(1..=1024).contains(&t.node_count()),
         3 => !t.whole_props() || t.prop_count() > 4096,
         4 => t.pool.len() > 65536,
@@ -95,7 +96,7 @@ pub fn breaks(t: &Tables, number: u32, place: usize) -> bool {
         25 => t.is_leaf(place) && names_cpu_again(t, place),
         26 => !(1..t.node_count()).any(|r| t.is_leaf(r) && t.cpu_of(r) == Some(place)),
         27 => t.room < 12 * t.cpus().len(),
-        36 => !address_cells(t).is_some_and(|cells| cells == 1 || t.width == 64),
+        36 => !address_cells(t).is_some_and(|cells| cells == 1 || t.width == ARM64),
         37 => t.value(0, b"#size-cells") != Some(&[0, 0, 0, 0]),
         _ => false,
     }
@@ -142,10 +143,13 @@ pub fn reg(t: &Tables, cpu: usize) -> Option<(u32, u32)> {
     }
 }
 
+/// A hart id has any value, an MPIDR the affinity bits only.
 fn bad_reg(t: &Tables, cpu: usize) -> bool {
-    !reg(t, cpu).is_some_and(|(upper, lower)| {
-        (8..32).all(|at| (upper >> at) & 1 == 0) && (24..32).all(|at| (lower >> at) & 1 == 0)
-    })
+    !reg(t, cpu).is_some_and(|(upper, lower)| t.width == RISCV || affinity_bits(upper, lower))
+}
+
+fn affinity_bits(upper: u32, lower: u32) -> bool {
+    (8..32).all(|at| (upper >> at) & 1 == 0) && (24..32).all(|at| (lower >> at) & 1 == 0)
 }
 
 fn same_as_earlier_cpu(t: &Tables, cpu: usize, name: &[u8]) -> bool {

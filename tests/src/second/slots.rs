@@ -64,7 +64,8 @@ pub fn read_slots(tables: &Tables, rows: &[u32], table: &[u32]) -> ReadSlots {
     }
 }
 
-/// The number of the row with a slot, or GAP.
+/// The number of the row with a slot, or GAP. A row of a RISC-V board has none;
+/// its table is one entry, as it has no bits.
 fn entry(rows: &[u32], slot: u32) -> u32 {
     let has_it = |row: &[u32]| row[SLOT_WORD] == slot;
     let row = rows.chunks(ROW_WORDS).position(has_it);

@@ -1,30 +1,27 @@
 -- How the slots of a board are made, and the slot of a cpu.
-use mathlib.Core.Bool.{true, false, cond}
+use mathlib.Core.Bool.{cond}
 use mathlib.Core.List.{List}
 use Prim.Native.Nat.{ℕ}
 use lib.Dec.{eqb}
 use Rattle.layout.specs.facts.Row.{gap}
 use Rattle.affinity.specs.declared.Hash.{Hash}
-use Rattle.affinity.specs.answers.Hash.{hashOf, hashOfMask, slotGuarded}
+use Rattle.affinity.specs.answers.Mask.{maskOf}
+use Rattle.affinity.specs.answers.Hash.{hashOfMask, slotGuarded}
 use Rattle.tables.specs.facts.Board.{Board, riscv}
 use Rattle.cpus.specs.answers.Check.{regList}
 use Rattle.rows.specs.declared.BoardSlots.{BoardSlots}
 
--- by the hash of the MPIDRs
-abbrev pub byHash : Hash → BoardSlots
-byHash hash = record { given = true; hash = hash }
-
--- hart ids have no slots, and the hash of the empty mask
-abbrev pub noSlots : BoardSlots
-noSlots = record { given = false; hash = hashOfMask 0 }
+-- the mask of MPIDRs; 0 of hart ids, of which no bit makes a slot
+abbrev pub maskFor : ℕ → List ℕ → ℕ
+maskFor width regs = cond (eqb width riscv) 0 (maskOf regs)
 
 -- of a board of a width, whose cpus have these `reg`s
 unfoldable pub slotsFor : ℕ → List ℕ → BoardSlots
-slotsFor width regs = cond (eqb width riscv) noSlots (byHash (hashOf regs))
+slotsFor width regs = record { width = width; hash = hashOfMask (maskFor width regs) }
 
 -- the slot of the cpu with this `reg`
 abbrev pub slotBy : BoardSlots → ℕ → ℕ
-slotBy slots reg = cond (slots .given) (slotGuarded (slots .hash) reg) gap
+slotBy slots reg = cond (eqb (slots .width) riscv) gap (slotGuarded (slots .hash) reg)
 
 abbrev pub slotsOf : Board → BoardSlots
 slotsOf b = slotsFor (b .width) (regList b)

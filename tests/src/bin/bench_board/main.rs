@@ -1,13 +1,15 @@
 //! Time of a whole board: the library, the fast version and, with the feature
-//! `fdt`, a reader over libfdt that starts from a blob. With the feature `loader`
-//! the blob call too, beside peers that start from a blob as well.
+//! `fdt`, a reader over libfdt that starts from a blob and knows ARM boards only.
+//! With the feature `loader` the blob call too, beside peers that start from a
+//! blob as well.
 
 use std::hint::black_box;
 use sunderwath_tests::answer::ANSWER_WORDS;
 use sunderwath_tests::build::order::reverse_siblings;
-use sunderwath_tests::build::shapes::{fill_up, regular_board};
+use sunderwath_tests::build::shapes::{fill_up, regular_board, regular_board_of};
 use sunderwath_tests::build::{Board, Node, FULL_ROOM};
 use sunderwath_tests::timing::best_ns;
+use sunderwath_tests::width::{ARM64, RISCV};
 use sunderwath_tests::{fast, ffi};
 
 #[cfg(feature = "loader")]
@@ -84,12 +86,15 @@ fn column(ours: f64, peer: Option<f64>) -> String {
     }
 }
 
-fn measure(name: &str, root: &Node, calls: usize) {
-    let board = Board::of(64, root);
+fn measure(name: &str, width: u32, root: &Node, calls: usize) {
+    let board = Board::of(width, root);
     let (ours, rows) = measure_library(&board, calls);
     let peer = measure_fast(&board, calls, &rows);
-    let table = fdt::measure(root, calls, false, &rows);
-    let by_phandle = fdt::measure(root, calls, true, &rows);
+    let libfdt = |by_search| match width {
+        RISCV => None,
+        _ => fdt::measure(root, calls, by_search, &rows),
+    };
+    let (table, by_phandle) = (libfdt(false), libfdt(true));
     println!(
         "{name:<22} {:>12.2} {} {} {}",
         ours / 1000.0,
@@ -107,14 +112,18 @@ fn main() {
         "board", "library", "fast", "ratio", "libfdt", "ratio", "by search", "ratio"
     );
     for (cpus, calls) in [(4, 2000), (16, 500), (64, 50), (256, 5)] {
-        measure(&format!("{cpus} cpus"), &regular_board(cpus), calls);
+        measure(&format!("{cpus} cpus"), ARM64, &regular_board(cpus), calls);
+    }
+    for (harts, calls) in [(16, 500), (256, 5)] {
+        let root = regular_board_of(RISCV, harts);
+        measure(&format!("{harts} harts, RISC-V"), RISCV, &root, calls);
     }
     let mut falling = regular_board(256);
     reverse_siblings(&mut falling.children[0]);
-    measure("256 cpus, falling", &falling, 5);
+    measure("256 cpus, falling", ARM64, &falling, 5);
     let mut worst = regular_board(256);
     fill_up(&mut worst, 1024, 4096);
-    measure("256 cpus, full tables", &worst, 2);
+    measure("256 cpus, full tables", ARM64, &worst, 2);
     #[cfg(feature = "loader")]
     blob_call::run();
 }
