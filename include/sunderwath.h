@@ -184,10 +184,10 @@ extern "C" {
  * sunderwath_read_tables_slots need at most. Measured on x86-64, not proved:
  * the proof is about a machine without a stack. The most is needed by 1,024
  * records nested in the map or below a cpu, as the ancestor test of rule 6
- * recurses on the parent; boards of 16 and of 256 cpus need 17,168 bytes, with
- * a table of slots 17,216. tests/c/stack_test.c measures these boards.
+ * recurses on the parent; boards of 16 and of 256 cpus need 16,976 bytes, with
+ * a table of slots 17,008. tests/c/stack_test.c measures these boards.
  */
-#define SUNDERWATH_STACK_BYTES 49824
+#define SUNDERWATH_STACK_BYTES 49616
 
 /*
  * The bytes of stack that sunderwath_read_flat needs at most, whatever the
@@ -202,10 +202,10 @@ extern "C" {
  * The bytes of stack that sunderwath_read_blob needs at most: its two tables,
  * 32,768 bytes, and what reading them needs. The rows are made in the table of
  * the properties. Measured on x86-64, not proved. Boards of 16 cpus and of as
- * many as 1,024 properties allow need 49,760 bytes; the most is needed by the
+ * many as 1,024 properties allow need 49,776 bytes; the most is needed by the
  * boards that SUNDERWATH_STACK_BYTES speaks of.
  */
-#define SUNDERWATH_BLOB_STACK_BYTES 82368
+#define SUNDERWATH_BLOB_STACK_BYTES 82384
 
 /* The bytes of stack that sunderwath_slot needs at most. Measured on x86-64,
  * not proved. */

@@ -23,7 +23,7 @@
 #define LAST (SUNDERWATH_MAX_NODES - 1)
 
 /* The most that boards without long chains of records have needed. */
-#define ORDINARY_BYTES 17376
+#define ORDINARY_BYTES 17168
 
 /* Beside what reading its tables takes, the blob call needs the same stack for
  * each board. */

@@ -93,12 +93,9 @@ module _
   )
 
   -- what was checked of a room of so many words
-  module _
-      (room : ℕ) (asked : Asked) {slots : BoardSlots} {c : Checked}
-      (made-of : slots ≡ slotsFor (b .width) (take (s .cpus) regs))
-      (checked : c ≡ checkedOf s slots room asked) where
-    slots-are : surveyFault b .number ≡ 0 → slots ≡ slotsOf b
-    slots-are z = made-of ∙ ap (slotsFor (b .width)) (regs-front z)
+  module _ (room : ℕ) (asked : Asked) {c : Checked} (checked : c ≡ checkedOf (b .width) s (take (s .cpus) regs) room asked) where
+    slots-are : surveyFault b .number ≡ 0 → slotsFor (b .width) (take (s .cpus) regs) ≡ slotsOf b
+    slots-are z = ap (slotsFor (b .width)) (regs-front z)
 
     told-is : c .fault ≡ readFault b room asked
     told-is = ap (λ (k : Checked). k .fault) checked ∙ rooms-is b found room asked (λ z. ap (λ (k : BoardSlots). k .hash .bits) (slots-are z))

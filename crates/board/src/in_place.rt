@@ -50,8 +50,7 @@ pub fn read_in_place(
     let count = found.cpus;
     let leaf_count = found.leaves;
     let listed = &regs[..count];
-    let slots = rows::slots_for(width, listed);
-    let checked = check_rooms(found, slots, at_most(room, size), Asked::Rows);
+    let checked = check_rooms(width, found, listed, at_most(room, size), Asked::Rows);
     write(
         table,
         nodes,

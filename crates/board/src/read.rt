@@ -10,7 +10,6 @@ use laws::limits::MAX_CPUS;
 use laws::limits::NO_PROPERTY;
 use laws::rules;
 use layout::ROW_WORDS;
-use rows::BoardSlots;
 ghost use mathlib.Core.Path.{_≡_};
 ghost use lib.ListN.{length};
 ghost use Rattle.tables.specs.facts.Board.{board};
@@ -49,10 +48,11 @@ fn rooms_fault(found: Surveyed, room: usize, asked: Asked, bits: u32) -> Fault
     }
 }
 
-// What is told of a surveyed board with such slots and of a room of so many words.
-pub fn check_rooms(found: Surveyed, slots: BoardSlots, room: usize, asked: Asked) -> Checked
-    ensures { λ r. ⌜ r ≡ checkedOf found slots room asked ⌝ }
+// What is told of a surveyed board of a width, whose cpus have these `reg`s, and of a room of so many words; and how its slots are made.
+pub fn check_rooms(width: u32, found: Surveyed, regs: &[u64], room: usize, asked: Asked) -> Checked
+    ensures { λ r. ⌜ r ≡ checkedOf width found (now (regs .entry)) room asked ⌝ }
 {
+    let slots = rows::slots_for(width, regs);
     let hash = slots.hash;
     Checked {
         fault: rooms_fault(found, room, asked, hash.bits),
@@ -127,8 +127,7 @@ pub fn read(
     let count = found.cpus;
     let leaf_count = found.leaves;
     let listed = &regs[..count];
-    let slots = rows::slots_for(width, listed);
-    let checked = check_rooms(found, slots, rows.len(), asked);
+    let checked = check_rooms(width, found, listed, rows.len(), asked);
     write(
         rows,
         nodes,

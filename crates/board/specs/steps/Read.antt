@@ -1,5 +1,6 @@
 -- What is told of a board, by what is asked for.
 use mathlib.Core.Bool.{cond}
+use mathlib.Core.List.{List}
 use Prim.Native.Nat.{ℕ}
 use lib.Dec.{eqb}
 use Rattle.laws.specs.facts.Limits.{noProperty}
@@ -7,8 +8,7 @@ use Rattle.laws.specs.declared.Fault.{Fault}
 use Rattle.laws.specs.answers.Fault.{told, orElse}
 use Rattle.slot_table.specs.answers.Table.{entriesFault}
 use Rattle.tables.specs.facts.Board.{Board}
-use Rattle.rows.specs.declared.BoardSlots.{BoardSlots}
-use Rattle.rows.specs.answers.Slots.{boardHash}
+use Rattle.rows.specs.answers.Slots.{slotsFor, boardHash}
 use Rattle.demands.specs.declared.BoardAnswer.{BoardAnswer}
 use Rattle.demands.specs.answers.Answer.{roomFault, boardFault, refusedWith}
 use Rattle.board.specs.declared.Surveyed.{Surveyed}
@@ -29,9 +29,11 @@ roomsFault found room asked bits = orElse (found .fault) (orElse (told (roomFaul
 abbrev pub readFault : Board → ℕ → Asked → Fault
 readFault b room asked = orElse (boardFault b room) (told (tableFault asked (boardHash b .bits)) 0)
 
--- .. and of a surveyed one with such slots, for a row buffer of so many words
-abbrev pub checkedOf : Surveyed → BoardSlots → ℕ → Asked → Checked
-checkedOf found slots room asked = record { fault = roomsFault found room asked (slots .hash .bits); count = found .cpus; slots = slots }
+-- .. and of a surveyed one of a width, whose cpus have these `reg`s, for a row buffer of so many words
+abbrev pub checkedOf : ℕ → Surveyed → List ℕ → ℕ → Asked → Checked
+checkedOf width found regs room asked =
+    let slots = slotsFor width regs in
+    record { fault = roomsFault found room asked (slots .hash .bits); count = found .cpus; slots = slots }
 
 -- what is answered of it
 abbrev pub answerFrom : Checked → BoardAnswer

@@ -30,9 +30,6 @@ array-share-prefix-regs c = cpus-within (c .survey .ensures) .1
 slice-aggregate-listed : tie.Need-slice-aggregate-listed
 slice-aggregate-listed c = let call = c .before in sym (length-take-le _ _ (cpus-within (call .survey .ensures) .1))
 
-slots-for-requires : tie.Need-slots-for-requires
-slots-for-requires c κs = search needs
-
 at-most-requires-2 : tie.Need-at-most-requires-2
 at-most-requires-2 c κs = search needs
 
@@ -40,27 +37,25 @@ check-rooms-requires : tie.Need-check-rooms-requires
 check-rooms-requires c κs = search needs
 
 array-share-prefix-cpus : tie.Need-array-share-prefix-cpus
-array-share-prefix-cpus c = let call = c .before .before .before .before .before in cpus-within (call .survey .ensures) .0
+array-share-prefix-cpus c = let call = c .before .before .before .before in cpus-within (call .survey .ensures) .0
 
 slice-aggregate-write : tie.Need-slice-aggregate-write
-slice-aggregate-write c =
-    let call = c .before .before .before .before .before .before in
-    sym (length-take-le _ _ (cpus-within (call .survey .ensures) .0))
+slice-aggregate-write c = let call = c .before .before .before .before .before in sym (length-take-le _ _ (cpus-within (call .survey .ensures) .0))
 
 array-share-prefix-leaves : tie.Need-array-share-prefix-leaves
-array-share-prefix-leaves c = let call = c .before .before .before .before .before .before in leaves-within (call .survey .ensures) .0
+array-share-prefix-leaves c = let call = c .before .before .before .before .before in leaves-within (call .survey .ensures) .0
 
 slice-aggregate-write-2 : tie.Need-slice-aggregate-write-2
 slice-aggregate-write-2 c =
-    let call = c .before .before .before .before .before .before .before in
+    let call = c .before .before .before .before .before .before in
     sym (length-take-le _ _ (leaves-within (call .survey .ensures) .0))
 
 array-share-prefix-named : tie.Need-array-share-prefix-named
-array-share-prefix-named c = let call = c .before .before .before .before .before .before .before in leaves-within (call .survey .ensures) .1
+array-share-prefix-named c = let call = c .before .before .before .before .before .before in leaves-within (call .survey .ensures) .1
 
 slice-aggregate-write-3 : tie.Need-slice-aggregate-write-3
 slice-aggregate-write-3 c =
-    let call = c .before .before .before .before .before .before .before .before in
+    let call = c .before .before .before .before .before .before .before in
     sym (length-take-le _ _ (leaves-within (call .survey .ensures) .1))
 
 write-requires : tie.Need-write-requires
@@ -74,14 +69,13 @@ returns c =
     let wrote = c .before .before in
     let checked = wrote .before .before .before .before .before in
     let room = checked .before in
-    let slots = room .before in
-    let call = slots .before .before in
+    let call = room .before .before in
     let held = call .before .before .before .before .before .before in
     let a = held .before .before .before .before .args in
     let b = board (a .width) (a .nodes .now) (take (held .at-most .result) (a .table .now)) (a .pool .now) in
     let promised =
-    met {b = b} (call .survey .ensures) (room .at-most2 .result) Rows
-    (slots .slots-for .ensures) (checked .check-rooms .ensures) (a .table .now) (wrote .write .ensures) in
+    met {b = b} (call .survey .ensures) (room .at-most2 .result) Rows (checked .check-rooms .ensures)
+    (a .table .now) (wrote .write .ensures) in
     rw (← cut-same (a .table .now) (a .words) (held .at-most .ensures), ← room .at-most2 .ensures)
     (rows-alone b (a .table .now) (room .at-most2 .result) promised)
 
@@ -95,7 +89,6 @@ read-in-place-spec =
     survey-requires
     array-share-prefix-regs
     slice-aggregate-listed
-    slots-for-requires
     at-most-requires-2
     check-rooms-requires
     array-share-prefix-cpus
