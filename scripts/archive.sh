@@ -1,4 +1,5 @@
 #!/usr/bin/env bash
+# SPDX-License-Identifier: BSD-2-Clause OR GPL-2.0-or-later
 # The library for a processor: archive.sh [x86_64|aarch64|riscv64]... (x86_64 where none is named)
 #
 # Proves the library and writes target/archive/TARGET/libsunderwath.a, all of one module that the proved code was lowered to:
@@ -73,19 +74,26 @@ externs() {
     done
 }
 
-# Proves and builds the library; the kit tells what it proves.
+# Keeps the whole output of the kit as a log, and shows the lines that say what is proved: LOG
+progress() {
+    tee "$1" | { grep --line-buffered -E '^rt: |NOT PROVED|error' || true; }
+}
+
+# Proves and builds the library, unless that is done.
 build() {
     local words
     mkdir -p "$out/x86_64"
+    echo "proving the library, once: about two minutes on two cores"
     # shellcheck disable=SC2046
-    rt check $(dependencies)
+    rt check $(dependencies) 2>&1 | progress "$out/check.log" || fail "not proved: see $out/check.log"
     mapfile -t words < <(externs)
     "$own/bin/rattle" build --crate-name sunderwath crates/sunderwath/src/lib.rt "${words[@]}" \
         -L dependency=target/rlib -L "dependency=$own/rlib" --antt-project "$kit/logic/antt-project.json" \
         --logic-built "$own/logic-built" --crate-type staticlib --toolchain "$(keeping_toolchain)" \
-        -o "$out/x86_64/libsunderwath.a" 2>&1 | tee "$out/build.log"
-    grep -q '^logic=proved ' "$out/build.log" || fail "the library is not proved"
+        -o "$out/x86_64/libsunderwath.a" 2>&1 | progress "$out/build.log" || fail "not built: see $out/build.log"
+    grep -q '^logic=proved ' "$out/build.log" || fail "the library is not proved: see $out/build.log"
     ! grep -q '^logic=proved .*foreign=' "$out/build.log" || fail "the library declares C functions of its own"
+    echo "rt: sunderwath proved, $out/x86_64/libsunderwath.a written"
     echo "$sum" >"$out/x86_64/inputs"
 }
 

@@ -1,5 +1,10 @@
 #!/usr/bin/env bash
-# Makes sure that what the other scripts call is there: the Rattle kit, and a few of Debian's packages.
+# SPDX-License-Identifier: BSD-2-Clause OR GPL-2.0-or-later
+# Makes sure that what the other scripts call is there: the Rattle kit, and some of Debian's packages.
+#   setup.sh        what proving, building and showing a board needs
+#   setup.sh boot   that, and what builds and boots the firmware for both processors
+#   setup.sh test   that, and what the tests need
+# Missing packages are installed; who is not root is told which they are.
 set -euo pipefail
 
 if ! command -v rt >/dev/null; then
@@ -8,13 +13,60 @@ if ! command -v rt >/dev/null; then
 fi
 
 missing=()
-command -v gcc >/dev/null || missing+=(gcc libc6-dev)
-command -v g++ >/dev/null || missing+=(g++)
-command -v cargo >/dev/null || missing+=(cargo)
-command -v dtc >/dev/null || missing+=(device-tree-compiler)
-command -v valgrind >/dev/null || missing+=(valgrind)
-if [ ${#missing[@]} -gt 0 ]; then
+
+# The packages are needed where there is no such command: COMMAND PACKAGE...
+need() {
+    command -v "$1" >/dev/null || missing+=("${@:2}")
+}
+
+for_showing() {
+    need gcc gcc libc6-dev
+    need cargo cargo
+    need dtc device-tree-compiler
+}
+
+for_booting() {
+    need make make
+    need aarch64-linux-gnu-gcc gcc-aarch64-linux-gnu libc6-dev-arm64-cross
+    need riscv64-linux-gnu-gcc gcc-riscv64-linux-gnu libc6-dev-riscv64-cross
+    need qemu-system-aarch64 qemu-system-arm
+    need qemu-system-riscv64 qemu-system-misc
+}
+
+# Debian's own cargo is tried beside another one.
+for_testing() {
+    need g++ g++
+    need /usr/bin/cargo cargo
+    need valgrind valgrind
+    need python3 python3
+    need pkg-config pkg-config
+    need groff groff-base
+    need qemu-aarch64 qemu-user
+}
+
+install_missing() {
+    [ ${#missing[@]} -gt 0 ] || return 0
+    if [ "$(id -u)" -ne 0 ] || ! command -v apt-get >/dev/null; then
+        echo "These packages of Debian are needed, and only root can install them:" >&2
+        echo "  apt-get install ${missing[*]}" >&2
+        exit 2
+    fi
     echo "installing: ${missing[*]}" >&2
     apt-get update -qq >&2
-    DEBIAN_FRONTEND=noninteractive apt-get install -y -qq "${missing[@]}" >&2
-fi
+    DEBIAN_FRONTEND=noninteractive apt-get install -y -qq --no-install-recommends "${missing[@]}" >&2
+}
+
+for_showing
+case ${1:-show} in
+show) ;;
+boot) for_booting ;;
+test)
+    for_booting
+    for_testing
+    ;;
+*)
+    echo "usage: setup.sh [show|boot|test]" >&2
+    exit 2
+    ;;
+esac
+install_missing

@@ -1,15 +1,10 @@
 #!/usr/bin/env bash
-# Builds the library and the command line, and reads a board: show.sh FILE [OPTIONS]
+# SPDX-License-Identifier: BSD-2-Clause OR GPL-2.0-or-later
+# Reads a board and shows it: show.sh FILE [OPTIONS]. The library is proved and the command line built first, once: both are made again only
+# where something they are made of has changed.
 set -euo pipefail
 top=$(cd "$(dirname "$0")/.." && pwd)
-"$top/scripts/setup.sh"
-(
-    cd "$top"
-    mkdir -p target
-    if ! rt staticlib sunderwath >target/show.log 2>&1; then
-        cat target/show.log >&2
-        exit 2
-    fi
-    cargo build --offline --quiet --release --manifest-path cli/Cargo.toml --target-dir target/cli
-)
+"$top/scripts/setup.sh" show
+"$top/scripts/archive.sh" x86_64 >&2
+(cd "$top" && cargo build --offline --quiet --release --manifest-path cli/Cargo.toml --target-dir target/cli)
 exec "$top/target/cli/release/sunderwath" "$@"
