@@ -70,6 +70,16 @@ extern "C" {
 #endif
 
 /*
+ * The version. It is stated here: the pkg-config file is made from these lines,
+ * and scripts/version.sh compares all else that names it. Before 1.0.0 a new
+ * minor number may change calls; the numbers told and their names stay.
+ */
+#define SUNDERWATH_VERSION_MAJOR 0
+#define SUNDERWATH_VERSION_MINOR 9
+#define SUNDERWATH_VERSION_PATCH 0
+#define SUNDERWATH_VERSION "0.9.0"
+
+/*
  * The board numbers: what `width` may be. No board is told from another by its
  * devicetree; the caller says which one it is.
  */
