@@ -5,7 +5,7 @@ use crate::run::{board, boards, run, text};
 use std::fs;
 
 /// Accepted boards with MPIDRs, with the number of processors and the hash line.
-pub const ACCEPTED: [(&str, usize, &str); 10] = [
+pub const ACCEPTED: [(&str, usize, &str); 11] = [
     (
         "example1",
         16,
@@ -39,6 +39,11 @@ pub const ACCEPTED: [(&str, usize, &str); 10] = [
         "wide-hash",
         3,
         "hash: mask 0x1181, shifts 0 0 3 19, bits 13",
+    ),
+    (
+        "three-levels",
+        6,
+        "hash: mask 0x10101, shifts 0 7 14 29, bits 3",
     ),
 ];
 
