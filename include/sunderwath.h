@@ -49,11 +49,26 @@
  *
  * WHAT THE LIBRARY NEEDS
  *
- *  - memset, and nothing else: no heap, no other call. Firmware without
- *    a C library provides memset itself.
+ *  - On x86-64 memset, on aarch64 and riscv64 memset and memcpy, and nothing
+ *    else: no heap, no other call. Firmware without a C library provides them
+ *    itself.
  *  - The archive, libsunderwath.a, is one object without data and without bss.
- *    Its only undefined symbol is memset, its global symbols are the calls
- *    below. scripts/symbols.sh checks this.
+ *    Its only undefined symbols are these, its global symbols are the calls
+ *    below. scripts/symbols.sh checks this. scripts/archive.sh makes an archive
+ *    for each processor, all of the same proved code:
+ *      x86_64            for Linux, position independent
+ *      aarch64           for bare metal and Linux: general registers only (no
+ *                        floats, no vectors), and each access aligned, so it
+ *                        runs before the MMU and the floating-point unit do
+ *      riscv64           rv64gc, ABI lp64d, code model medany
+ *      riscv64/rv64imac  rv64imac, ABI lp64, code model medany: for firmware
+ *                        that is compiled so, as the linker mixes no ABIs.
+ *                        Neither has a floating-point instruction.
+ *    There is none for 32-bit ARM: sizes have 64 bits in the code that is
+ *    proved, and pointers there 32. Boards with such processors are read all
+ *    the same (SUNDERWATH_ARM32), but on the machine that builds the firmware:
+ *    run the command line on the board's devicetree there, let the build fail
+ *    where it refuses, and ship the rows that it prints as constants.
  *  - Stack, as stated by SUNDERWATH_STACK_BYTES and its kin below.
  *  - The texts of the numbers (sunderwath_strerror, sunderwath_check_name) are
  *    not in the archive but in sunderwath_text.c, which needs nothing: compile
@@ -190,36 +205,51 @@ extern "C" {
 #define SUNDERWATH_BLOB_MAX_PROPERTIES 1024
 
 /*
- * The bytes of stack that sunderwath_read_tables and
- * sunderwath_read_tables_slots need at most. Measured on x86-64, not proved:
- * the proof is about a machine without a stack. The most is needed by 1,024
- * records nested in the map or below a cpu, as the ancestor test of rule 6
- * recurses on the parent; boards of 16 and of 256 cpus need 16,976 bytes, with
- * a table of slots 17,008. tests/c/stack_test.c measures these boards.
- */
-#define SUNDERWATH_STACK_BYTES 49616
-
-/*
- * The bytes of stack that sunderwath_read_flat needs at most, whatever the
- * blob: nothing recurs, however deep the nodes are nested. Measured on x86-64,
- * not proved. 512 of them are a table over the strings block; the rest is up to
- * the compiler and to memset. tests/c/stack_test.c measures blobs of 16 and of
- * 256 cpus, a full one, one as deep as fits and one of names that overlap.
- */
-#define SUNDERWATH_FLAT_STACK_BYTES 776
-
-/*
- * The bytes of stack that sunderwath_read_blob needs at most: its two tables,
+ * The bytes of stack that the calls need at most. Measured for each processor,
+ * not proved: the proof is about a machine without a stack. They are up to the
+ * compiler that made the archive, and have what the C library's memset and
+ * memcpy take in them. tests/c/stack_test.c measures them.
+ *
+ * SUNDERWATH_STACK_BYTES is for sunderwath_read_tables and
+ * sunderwath_read_tables_slots. The most is needed by 1,024 records nested in
+ * the map or below a cpu, as the ancestor test of rule 6 recurses on the
+ * parent.
+ *
+ * SUNDERWATH_FLAT_STACK_BYTES is for sunderwath_read_flat, whatever the blob:
+ * nothing recurs, however deep the nodes are nested. 512 of them are a table
+ * over the strings block. Measured are blobs of 16 and of 256 cpus, a full one,
+ * one as deep as fits and one of names that overlap.
+ *
+ * SUNDERWATH_BLOB_STACK_BYTES is for sunderwath_read_blob: its two tables,
  * 32,768 bytes, and what reading them needs. The rows are made in the table of
- * the properties. Measured on x86-64, not proved. Boards of 16 cpus and of as
- * many as 1,024 properties allow need 49,776 bytes; the most is needed by the
- * boards that SUNDERWATH_STACK_BYTES speaks of.
+ * the properties. The most is needed by the boards that SUNDERWATH_STACK_BYTES
+ * speaks of.
+ *
+ * SUNDERWATH_SLOT_STACK_BYTES is for sunderwath_slot.
+ *
+ * Boards without long chains of records need less than the most:
+ *                                                 x86-64  aarch64  riscv64
+ *   read_tables, 16 and 256 cpus                  16,976   17,144   17,104
+ *   read_tables_slots, 16 and 256 cpus            17,008   17,192   17,136
+ *   read_blob, 16 cpus and as many as 1,024
+ *   properties allow                              49,776   49,928   49,888
  */
-#define SUNDERWATH_BLOB_STACK_BYTES 82384
-
-/* The bytes of stack that sunderwath_slot needs at most. Measured on x86-64,
- * not proved. */
+#if defined(__aarch64__)
+#define SUNDERWATH_STACK_BYTES 49800
+#define SUNDERWATH_FLAT_STACK_BYTES 760
+#define SUNDERWATH_BLOB_STACK_BYTES 82536
 #define SUNDERWATH_SLOT_STACK_BYTES 2184
+#elif defined(__riscv)
+#define SUNDERWATH_STACK_BYTES 49744
+#define SUNDERWATH_FLAT_STACK_BYTES 768
+#define SUNDERWATH_BLOB_STACK_BYTES 82496
+#define SUNDERWATH_SLOT_STACK_BYTES 2160
+#else /* x86-64 */
+#define SUNDERWATH_STACK_BYTES 49616
+#define SUNDERWATH_FLAT_STACK_BYTES 776
+#define SUNDERWATH_BLOB_STACK_BYTES 82384
+#define SUNDERWATH_SLOT_STACK_BYTES 2184
+#endif
 
 /*
  * The numbers, in the order of checking. Each comment says what is wrong and,

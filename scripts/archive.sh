@@ -36,9 +36,10 @@ inputs() {
     } | sha256sum | cut -d' ' -f1
 }
 
-# Whether an archive was made of these inputs: TARGET
+# Whether what is asked for was made of these inputs: TARGET
 is_current() {
-    [ -f "$out/$1/libsunderwath.a" ] && [ "$(cat "$out/$1/inputs" 2>/dev/null)" = "$sum" ]
+    [ -f "$out/$1/libsunderwath.a" ] && [ "$(cat "$out/$1/inputs" 2>/dev/null)" = "$sum" ] || return 1
+    [ "$1" != riscv64 ] || [ -f "$out/riscv64/rv64imac/libsunderwath.a" ]
 }
 
 # ---- the module, and the archive for x86-64
@@ -104,7 +105,7 @@ build() {
 module_for() {
     local extend='s/^(define [^@]*)i32 @sunderwath_/\1signext i32 @sunderwath_/'
     case $1 in riscv64*) ;; *) extend='' ;; esac
-    "$clang" -x ir "$module" -S -emit-llvm -o - 2>/dev/null | sed -E \
+    "$clang" -Wno-override-module -x ir "$module" -S -emit-llvm -o - | sed -E \
         -e '/^target datalayout = /d' \
         -e "s/^target triple = .*/target triple = \"$1\"/" \
         -e 's/ "(target-cpu|target-features|tune-cpu)"="[^"]*"//g' \

@@ -3,11 +3,13 @@
  * sunderwath_read_flat, sunderwath_read_blob and sunderwath_slot need. Each
  * board, blob or list is read on a stack of its own, painted before; afterwards
  * the paint that is gone is counted, less what an empty function takes there.
- * Boards are read as ARM boards and then as RISC-V boards.
+ * Boards are read as ARM boards and then as RISC-V boards. What the C library's
+ * memset and memcpy take is counted too.
  * Prints the bytes of each; exit status 1 where one needs more than the header
- * states of its call, an ordinary board more than ORDINARY_BYTES or, as a blob,
- * more than ORDINARY_BLOB_BYTES, or is not answered as expected; and where the
- * header states far more than read_blob or slot needed.
+ * states of its call for this processor, an ordinary board more than
+ * ORDINARY_BYTES or, as a blob, more than ORDINARY_BLOB_BYTES, or is not
+ * answered as expected; and where the header states more than SLACK bytes
+ * beyond what a call needed.
  */
 #define _XOPEN_SOURCE 700
 
@@ -23,15 +25,22 @@
 #define LAST (SUNDERWATH_MAX_NODES - 1)
 
 /* The most that boards without long chains of records have needed. */
+#if defined(__aarch64__)
+#define ORDINARY_BYTES 17352
+#elif defined(__riscv)
+#define ORDINARY_BYTES 17296
+#else
 #define ORDINARY_BYTES 17168
+#endif
 
 /* Beside what reading its tables takes, the blob call needs the same stack for
  * each board. */
 #define ORDINARY_BLOB_BYTES \
     (SUNDERWATH_BLOB_STACK_BYTES - (SUNDERWATH_STACK_BYTES - ORDINARY_BYTES))
 
-/* What the header may state of read_blob and slot beyond what they need. */
-#define SLACK 256
+/* What the header may state beyond what a call needs: read_tables needs a little
+ * less than read_tables_slots, of which the header states the same. */
+#define SLACK 64
 
 /* A cpu and its leaf have four properties, the cpus node two. */
 #define MOST_BLOB_CPUS ((SUNDERWATH_BLOB_MAX_PROPERTIES - 2) / 4)
@@ -493,9 +502,14 @@ static void refused_blob(void)
             (uint32_t)blob.n);
 }
 
-/* Says the most that was needed, and begins anew. */
+/* Says the most that was needed, and begins anew. The header states little more
+ * than that. */
 static void sum_up(const char *name, size_t bytes_said)
 {
+    if (bytes_said > largest + SLACK) {
+        printf("%s: %zu bytes MORE THAN NEEDED\n", name, bytes_said - largest);
+        failures++;
+    }
     printf("largest %zu bytes, %s %zu, %d failures\n", largest, name,
            bytes_said, failures);
     largest = 0;
@@ -523,16 +537,6 @@ static void flat_blobs(void)
 }
 
 /* ---- the calls on bytes ---- */
-
-/* The header states little more than what was needed. */
-static void sum_up_closely(const char *name, size_t bytes_said)
-{
-    if (bytes_said > largest + SLACK) {
-        printf("%s: %zu bytes MORE THAN NEEDED\n", name, bytes_said - largest);
-        failures++;
-    }
-    sum_up(name, bytes_said);
-}
 
 static void ordinary_blob(const char *name, uint32_t cpus)
 {
@@ -602,7 +606,7 @@ static void slots_of_lists(void)
     measure("slot, list that ends inside", SUNDERWATH_LIST_LENGTH, 0);
     list_of(SUNDERWATH_MAX_CPUS + 1);
     measure("slot, list of 257", SUNDERWATH_LIST_LENGTH, 0);
-    sum_up_closely("SUNDERWATH_SLOT_STACK_BYTES", SUNDERWATH_SLOT_STACK_BYTES);
+    sum_up("SUNDERWATH_SLOT_STACK_BYTES", SUNDERWATH_SLOT_STACK_BYTES);
 }
 
 int main(void)
@@ -615,7 +619,7 @@ int main(void)
     flat_blobs();
     puts("blobs to rows, and slots, on bytes");
     blobs_to_rows();
-    sum_up_closely("SUNDERWATH_BLOB_STACK_BYTES", SUNDERWATH_BLOB_STACK_BYTES);
+    sum_up("SUNDERWATH_BLOB_STACK_BYTES", SUNDERWATH_BLOB_STACK_BYTES);
     slots_of_lists();
 
     puts("RISC-V boards: tables, tables of slots, blobs to rows");
