@@ -3,7 +3,7 @@
  * rows, with the columns of `sunderwath -p` and record numbers in place of names; then the slot that sunderwath_slot tells of each row's
  * MPIDR, which has to be that of the row. A RISC-V board has hart ids and no slots. A board that is refused is told in words.
  *
- *   gcc -Iinclude examples/loader.c include/sunderwath_text.c target/staticlib/libsunderwath.a -o loader && ./loader board.dtb [BOARD]
+ *   gcc -Iinclude examples/loader.c include/sunderwath_text.c target/archive/x86_64/libsunderwath.a -o loader && ./loader board.dtb [BOARD]
  *
  * BOARD is the board number: 64 (which it is without one), 32 or, for RISC-V, 5.
  *

@@ -2,7 +2,7 @@
  * Reads a board of two processors from tables and prints their rows; then the same board with a fault, which is refused with the
  * number of the rule, the node record and the property record.
  *
- *   gcc -Iinclude examples/read_board.c target/staticlib/libsunderwath.a -o read_board && ./read_board
+ *   gcc -Iinclude examples/read_board.c target/archive/x86_64/libsunderwath.a -o read_board && ./read_board
  */
 #include <stdio.h>
 #include <string.h>

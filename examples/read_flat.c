@@ -2,7 +2,7 @@
  * Reads a flattened devicetree from a file and prints the rows of its processors: the blob into tables, and the tables, with the blob as
  * their pool, into rows. BOARD is the board number: 64 (which it is without one), 32 or, for RISC-V, 5.
  *
- *   gcc -Iinclude examples/read_flat.c target/staticlib/libsunderwath.a -o read_flat && ./read_flat board.dtb [BOARD]
+ *   gcc -Iinclude examples/read_flat.c target/archive/x86_64/libsunderwath.a -o read_flat && ./read_flat board.dtb [BOARD]
  */
 #include <stdio.h>
 #include <stdlib.h>

@@ -3,7 +3,7 @@
  * its row: the slot from mask and shifts, the row from the table, and then the row's MPIDR, as one that is not on the board can have the
  * slot of one that is.
  *
- *   gcc -Iinclude examples/wake_slot.c target/staticlib/libsunderwath.a -o wake_slot && ./wake_slot
+ *   gcc -Iinclude examples/wake_slot.c target/archive/x86_64/libsunderwath.a -o wake_slot && ./wake_slot
  */
 #include <stdio.h>
 
