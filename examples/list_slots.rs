@@ -1,46 +1,14 @@
-//! The hash of a list of MPIDRs, and the slot of each.
+// SPDX-License-Identifier: BSD-2-Clause OR GPL-2.0-or-later
+//! The slot of each MPIDR of a list, and the refusal of one that is not in it.
 //!
-//!     rustc -O -L target/staticlib -l static=sunderwath examples/list_slots.rs -o list_slots && ./list_slots
-
-/// `SUNDERWATH_ANSWER_WORDS` of include/sunderwath.h.
-const ANSWER_WORDS: usize = 11;
-
-extern "C" {
-    fn sunderwath_list_slot(
-        mpidr: u64,
-        list: *const u64,
-        count: usize,
-        answer: *mut u32,
-        words: usize,
-    ) -> u32;
-}
-
-/// The slot of one MPIDR in a list, or the number told.
-fn slot(mpidr: u64, list: &[u64]) -> Result<u32, u32> {
-    let mut answer = [0u32; ANSWER_WORDS];
-    // The slices are valid for their lengths, and the answer overlaps nothing.
-    let number = unsafe {
-        sunderwath_list_slot(
-            mpidr,
-            list.as_ptr(),
-            list.len(),
-            answer.as_mut_ptr(),
-            answer.len(),
-        )
-    };
-    if number == 0 {
-        Ok(answer[2])
-    } else {
-        Err(number)
-    }
-}
+//!     cargo run --manifest-path rust/Cargo.toml --target-dir target/rust --example list_slots
 
 fn main() {
     let list = [0x0, 0x1, 0x100, 0x101];
     for mpidr in [0x0, 0x1, 0x100, 0x101, 0x10000] {
-        match slot(mpidr, &list) {
+        match sunderwath::list_slot(mpidr, &list) {
             Ok(slot) => println!("mpidr {mpidr:#x}: slot {slot}"),
-            Err(number) => println!("mpidr {mpidr:#x}: refused, number {number}"),
+            Err(refusal) => println!("mpidr {mpidr:#x}: refused, number {}", refusal.number()),
         }
     }
 }

@@ -4,7 +4,7 @@
 # boards at the limits that only the loader's call has.
 set -euo pipefail
 cd "$(dirname "$0")/.."
-archive=target/staticlib/libsunderwath.a
+archive=target/archive/x86_64/libsunderwath.a
 command=target/cli/debug/sunderwath
 out=target/c/loader-boards
 mkdir -p "$out"

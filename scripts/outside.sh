@@ -19,7 +19,11 @@ rt staticlib sunderwath >target/staticlib.log 2>&1 || { cat target/staticlib.log
 took
 
 echo "== Rust: the library compared with the second reader"
-cargo test --offline --quiet --manifest-path tests/Cargo.toml --target-dir target/tests --features loader -- --nocapture
+cargo test --offline --quiet --manifest-path tests/Cargo.toml --target-dir target/tests -- --nocapture
+took
+
+echo "== Rust: the crate"
+cargo test --offline --quiet --manifest-path rust/Cargo.toml --target-dir target/rust
 took
 
 echo "== Rust: the command line on boards/"
@@ -42,13 +46,12 @@ for name in read_board read_flat wake_slot; do
     gcc -std=c11 "${strict[@]}" "examples/$name.c" "$archive" -o "target/c/$name"
 done
 gcc -std=c11 "${strict[@]}" examples/loader.c include/sunderwath_text.c "$archive" -o target/c/loader
-rustc -O -L target/staticlib -l static=sunderwath examples/list_slots.rs -o target/c/list_slots
 dtc -q -I dts -O dtb -o target/c/whole-case.dtb boards/whole-case.dts
 dtc -q -I dts -O dtb -o target/c/refused.dtb boards/refused-12-reg.dts
 dtc -q -I dts -O dtb -o target/c/hifive.dtb boards/hifive-unleashed.dts
 {
     target/c/read_board
-    target/c/list_slots
+    cargo run --offline --quiet --manifest-path rust/Cargo.toml --target-dir target/rust --example list_slots
     target/c/read_flat target/c/whole-case.dtb
     target/c/wake_slot
     target/c/loader target/c/whole-case.dtb

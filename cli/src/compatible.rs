@@ -1,7 +1,9 @@
+// SPDX-License-Identifier: BSD-2-Clause OR GPL-2.0-or-later
 //! What the cpu nodes are compatible with, where that says another kind of board than the one that was read. It decides nothing.
 
-use crate::kind::Kind;
+use crate::kind::Wording;
 use crate::tables::Tables;
+use sunderwath::Kind;
 
 /// The string that every hart has, as the RISC-V cpus binding asks for.
 const HART: &[u8] = b"riscv";

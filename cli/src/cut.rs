@@ -1,14 +1,16 @@
+// SPDX-License-Identifier: BSD-2-Clause OR GPL-2.0-or-later
 //! Cuts a blob that is too long for the library down to /cpus. This is outside the proof, so it decides nothing that the
 //! library decides afterwards: every token of the long blob is followed, and each child of the root named cpus is kept.
 
-use crate::fault::{Fault, HEADER};
+use crate::fault::Fault;
 use crate::header::{
-    blocks, word_at, HEADER_BYTES, MAX_BLOB, RESERVATION_OFFSET, STRINGS_OFFSET, STRINGS_SIZE,
+    blocks, word_at, HEADER_BYTES, RESERVATION_OFFSET, STRINGS_OFFSET, STRINGS_SIZE,
     STRUCTURE_OFFSET, STRUCTURE_SIZE, TOTAL_SIZE,
 };
 use crate::stream::{survey, Survey};
 use std::collections::HashMap;
 use std::ops::Range;
+use sunderwath::{Rule, MAX_BLOB};
 
 /// The structure block stands behind the header and an empty memory reservation map.
 const STRUCTURE_AT: usize = HEADER_BYTES + 16;
@@ -114,7 +116,7 @@ fn check_length(blob: &[u8], blocks: usize) -> Result<(), Fault> {
     let length = blob.len();
     let reason =
         format!("blob of {length} bytes, limit {MAX_BLOB}; {left} or more with only /cpus");
-    Err(Fault::of_blob(HEADER, reason))
+    Err(Fault::of_blob(Rule::BlobHeader, reason))
 }
 
 /// Cuts a blob down to /cpus. Tells 31 to 33 of the whole blob, and 31 where too much is left.

@@ -1,3 +1,4 @@
+// SPDX-License-Identifier: BSD-2-Clause OR GPL-2.0-or-later
 //! Names are bytes of a blob. They become characters here, and these are escaped once: where they are printed.
 
 use std::fmt::Write;

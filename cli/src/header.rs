@@ -1,10 +1,12 @@
+// SPDX-License-Identifier: BSD-2-Clause OR GPL-2.0-or-later
 //! The header of a flattened devicetree: what breaks 31 and 32, in words.
 
-use crate::fault::{Fault, BLOCKS, HEADER};
+use crate::fault::Fault;
 use std::ops::Range;
+use sunderwath::Rule;
 
-/// The longest blob that the library takes.
-pub const MAX_BLOB: usize = 65_536;
+/// No more of a file is read: a pipe may have no end, whatever its header says.
+pub const MOST_READ: usize = 64 << 20;
 pub const HEADER_BYTES: usize = 40;
 pub const MAGIC: u32 = 0xD00D_FEED;
 const VERSION: u32 = 17;
@@ -58,6 +60,10 @@ fn header_reason(blob: &[u8]) -> Option<String> {
         Some(format!("magic {magic:#010x}, not {MAGIC:#010x}"))
     } else if total < HEADER_BYTES {
         Some(format!("total size {total}, a header has {HEADER_BYTES}"))
+    } else if total > length && length >= MOST_READ {
+        Some(format!(
+            "total size {total}, at most {MOST_READ} bytes are read"
+        ))
     } else if total > length {
         Some(format!(
             "total size {total} is beyond the file's {length} bytes"
@@ -112,7 +118,7 @@ fn find_blocks(blob: &[u8]) -> Result<Blocks, String> {
 /// The blocks of a blob, or 31 or 32.
 pub fn blocks(blob: &[u8]) -> Result<Blocks, Fault> {
     match header_reason(blob) {
-        Some(reason) => Err(Fault::of_blob(HEADER, reason)),
-        None => find_blocks(blob).map_err(|reason| Fault::of_blob(BLOCKS, reason)),
+        Some(reason) => Err(Fault::of_blob(Rule::BlobHeader, reason)),
+        None => find_blocks(blob).map_err(|reason| Fault::of_blob(Rule::BlobBlocks, reason)),
     }
 }

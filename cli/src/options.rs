@@ -1,36 +1,28 @@
-//! The command line.
+// SPDX-License-Identifier: BSD-2-Clause OR GPL-2.0-or-later
+//! The options and what they mean.
 
-use crate::kind::Kind;
-use std::ffi::OsString;
+use crate::arguments::{Argument, Arguments};
+use crate::kind::Wording;
+use std::ffi::{OsStr, OsString};
+use sunderwath::Kind;
 
-pub const USAGE: &str = "\
-Usage: sunderwath [OPTION]... FILE|-
-
-Check the processor topology of a devicetree and print one line per processor.
-FILE is a blob (.dtb), a source (.dts, compiled by dtc), or - for a blob on
-standard input.
-
-  -b, --board arm32|arm64|riscv
-                 kind of board: ARM v7, ARM v8 (default) or RISC-V
-  -w, --width 32|64|5
-                 the same by its number: 32 ARM v7, 64 ARM v8, 5 RISC-V
-  -p, --parse    print comma-separated values, with comments after #
-  -j, --json     print JSON, and why a board is refused as an object
-  -t, --tree     print the cpu-map as an indented tree
-  -s, --slots    print each slot and the processor that has it, - for none
-  -q, --quiet    print no note, and no message when the board is refused
-  -h, --help     print this help
-  -V, --version  print the version
-
-Exit status: 0 accepted, 1 refused, 2 wrong usage or unreadable file.
-";
+/// How a tree is drawn.
+#[derive(Clone, Copy, Debug, PartialEq, Eq)]
+pub enum Drawing {
+    /// By indentation alone.
+    Ascii,
+    /// With box-drawing lines.
+    Utf8,
+    /// As the terminal can.
+    Auto,
+}
 
 #[derive(Clone, Copy, Debug, PartialEq, Eq)]
 pub enum Format {
     Table,
     Parsable,
     Json,
-    Tree,
+    Tree(Drawing),
     Slots,
 }
 
@@ -39,8 +31,11 @@ pub struct Options {
     /// The kind of board that was asked for, if any.
     pub board: Option<Kind>,
     pub format: Format,
+    /// Nothing is printed of an accepted board.
+    pub check: bool,
     pub quiet: bool,
-    pub file: OsString,
+    /// At least one.
+    pub files: Vec<OsString>,
 }
 
 impl Options {
@@ -57,72 +52,94 @@ pub enum Request {
     Version,
 }
 
-/// The kind of board that the value of an option means, by name or by number.
-fn board(option: &str, value: &str) -> Result<Kind, String> {
-    let (found, what, known) = match option {
-        "-b" | "--board" => (Kind::named(value), "board", Kind::ALL.map(name)),
-        _ => (Kind::numbered(value), "width", Kind::ALL.map(number)),
-    };
-    let [first, second, third] = known;
-    let wrong = || format!("the {what} must be {first}, {second} or {third}, not '{value}'");
-    found.ok_or_else(wrong)
-}
-
-fn name(kind: Kind) -> String {
-    kind.name().to_string()
-}
-
-fn number(kind: Kind) -> String {
-    kind.number().to_string()
-}
-
-/// An option in one argument.
-fn flag(options: &mut Options, argument: &str) -> Result<(), String> {
-    match argument {
-        "-q" | "--quiet" => options.quiet = true,
-        "-p" | "--parse" => options.format = Format::Parsable,
-        "-j" | "--json" => options.format = Format::Json,
-        "-t" | "--tree" => options.format = Format::Tree,
-        "-s" | "--slots" => options.format = Format::Slots,
-        _ => match argument.split_once('=') {
-            Some((option @ ("--board" | "--width"), value)) => {
-                options.board = Some(board(option, value)?);
-            }
-            _ => return Err(format!("unknown option '{argument}'")),
-        },
+/// The thing that a value names, or that it has to be one of the known ones.
+fn one_of<T>(what: &str, known: &[(String, T)], value: &OsStr) -> Result<T, String>
+where
+    T: Copy,
+{
+    if let Some((_, thing)) = known.iter().find(|(name, _)| value == name.as_str()) {
+        return Ok(*thing);
     }
-    Ok(())
+    let names: Vec<&str> = known.iter().map(|(name, _)| name.as_str()).collect();
+    let (last, others) = names.split_last().unwrap_or((&"", &[]));
+    let (others, value) = (others.join(", "), value.to_string_lossy());
+    Err(format!(
+        "the {what} must be {others} or {last}, not '{value}'"
+    ))
+}
+
+fn board(value: &OsStr) -> Result<Kind, String> {
+    let known = Kind::ALL.map(|kind| (kind.name().to_string(), kind));
+    one_of("board", &known, value)
+}
+
+fn width(value: &OsStr) -> Result<Kind, String> {
+    let known = Kind::ALL.map(|kind| (kind.number().to_string(), kind));
+    one_of("width", &known, value)
+}
+
+fn drawing(value: Option<OsString>) -> Result<Drawing, String> {
+    let known = [("ascii", Drawing::Ascii), ("utf8", Drawing::Utf8)];
+    let known = known.map(|(name, drawing)| (name.to_string(), drawing));
+    value.map_or(Ok(Drawing::Auto), |value| one_of("tree", &known, &value))
+}
+
+/// Takes the arguments that follow the program's name.
+struct Reader<I> {
+    arguments: Arguments<I>,
+    options: Options,
+}
+
+impl<I: Iterator<Item = OsString>> Reader<I> {
+    /// One option, which may ask for something else than a run.
+    fn option(&mut self, option: &str) -> Result<Option<Request>, String> {
+        let (options, arguments) = (&mut self.options, &mut self.arguments);
+        match option {
+            "-h" | "--help" => return Ok(Some(Request::Help)),
+            "-V" | "--version" => return Ok(Some(Request::Version)),
+            "-b" | "--board" => options.board = Some(board(&arguments.value(option)?)?),
+            "-w" | "--width" => options.board = Some(width(&arguments.value(option)?)?),
+            "-c" | "--check" => options.check = true,
+            "-q" | "--quiet" => options.quiet = true,
+            "-p" | "--parse" => options.format = Format::Parsable,
+            "-j" | "--json" => options.format = Format::Json,
+            "-t" => options.format = Format::Tree(Drawing::Auto),
+            "--tree" => options.format = Format::Tree(drawing(arguments.own_value())?),
+            "-s" | "--slots" => options.format = Format::Slots,
+            _ => return Err(format!("unknown option '{option}'")),
+        }
+        Ok(None)
+    }
+
+    fn read(mut self) -> Result<Request, String> {
+        while let Some(argument) = self.arguments.take()? {
+            match argument {
+                Argument::Operand(file) => self.options.files.push(file),
+                Argument::Option(option) => {
+                    if let Some(request) = self.option(&option)? {
+                        return Ok(request);
+                    }
+                }
+            }
+        }
+        if self.options.files.is_empty() {
+            return Err("no file".to_string());
+        }
+        Ok(Request::Run(self.options))
+    }
 }
 
 /// Reads the arguments that follow the program's name.
 pub fn parse(arguments: impl IntoIterator<Item = OsString>) -> Result<Request, String> {
-    let mut arguments = arguments.into_iter();
-    let mut options = Options {
+    let options = Options {
         board: None,
         format: Format::Table,
+        check: false,
         quiet: false,
-        file: OsString::new(),
+        files: Vec::new(),
     };
-    let mut files = Vec::new();
-    while let Some(argument) = arguments.next() {
-        match &*argument.to_string_lossy() {
-            "--" => files.extend(arguments.by_ref()),
-            "-h" | "--help" => return Ok(Request::Help),
-            "-V" | "--version" => return Ok(Request::Version),
-            option @ ("-b" | "--board" | "-w" | "--width") => {
-                let value = arguments.next();
-                let value = value.ok_or(format!("option '{option}' needs a value"))?;
-                options.board = Some(board(option, &value.to_string_lossy())?);
-            }
-            option if option.len() > 1 && option.starts_with('-') => flag(&mut options, option)?,
-            _ => files.push(argument),
-        }
-    }
-    if files.len() > 1 {
-        return Err("more than one file".to_string());
-    }
-    options.file = files.pop().ok_or("no file")?;
-    Ok(Request::Run(options))
+    let arguments = Arguments::new(arguments.into_iter());
+    Reader { arguments, options }.read()
 }
 
 #[cfg(test)]
@@ -133,13 +150,22 @@ mod tests {
         parse(line.split_whitespace().map(OsString::from))
     }
 
+    /// The options of a line that asks for a run.
+    fn options(line: &str) -> Options {
+        match parsed(line) {
+            Ok(Request::Run(options)) => options,
+            other => panic!("{line}: {other:?}"),
+        }
+    }
+
     #[test]
     fn options_in_any_order() {
         let wanted = Options {
             board: Some(Kind::Arm32),
             format: Format::Json,
+            check: false,
             quiet: true,
-            file: "a.dtb".into(),
+            files: vec!["a.dtb".into()],
         };
         for line in [
             "--width 32 --json -q a.dtb",
@@ -148,11 +174,25 @@ mod tests {
             "-b arm32 -j -q a.dtb",
             "--board arm32 a.dtb -q -j",
             "-q --board=arm32 a.dtb -j",
+            "-jqw32 a.dtb",
+            "-qjw 32 a.dtb",
+            "-qjbarm32 a.dtb",
+            "a.dtb -jqb arm32",
         ] {
-            assert_eq!(parsed(line), Ok(Request::Run(wanted.clone())));
+            assert_eq!(options(line), wanted, "{line}");
         }
         assert_eq!(parsed("--help"), Ok(Request::Help));
         assert_eq!(parsed("x -V"), Ok(Request::Version));
+        assert_eq!(parsed("-jqh"), Ok(Request::Help));
+    }
+
+    #[test]
+    fn files() {
+        let names = |line: &str| options(line).files;
+        assert_eq!(names("a -q b -"), ["a", "b", "-"]);
+        assert_eq!(names("-q -- -c a -- b"), ["-c", "a", "--", "b"]);
+        assert!(!options("-- -c").check);
+        assert!(options("-c a").check && options("a --check").check && options("-jc a").check);
     }
 
     /// The last one of the two options counts; that neither is given stays known.
@@ -168,9 +208,7 @@ mod tests {
             ("--width 32 --board=arm64 a", Some(Kind::Arm64)),
             ("-w 64 -w 5 a", Some(Kind::Riscv)),
         ] {
-            let Ok(Request::Run(options)) = parsed(line) else {
-                panic!("{line}");
-            };
+            let options = options(line);
             assert_eq!(options.board, wanted, "{line}");
             assert_eq!(options.kind(), wanted.unwrap_or(Kind::Arm64));
         }
@@ -182,45 +220,56 @@ mod tests {
             ("a", Format::Table),
             ("-s a", Format::Slots),
             ("-j -p -t --slots a", Format::Slots),
-            ("-s -t a", Format::Tree),
+            ("-s -t a", Format::Tree(Drawing::Auto)),
+            ("-jt a", Format::Tree(Drawing::Auto)),
+            ("--tree a", Format::Tree(Drawing::Auto)),
+            ("--tree=utf8 a", Format::Tree(Drawing::Utf8)),
+            ("-t --tree=ascii a", Format::Tree(Drawing::Ascii)),
             ("--slots a --json", Format::Json),
+            ("-jc a", Format::Json),
         ] {
-            let Ok(Request::Run(options)) = parsed(line) else {
-                panic!("{line}");
-            };
-            assert_eq!(options.format, wanted, "{line}");
+            assert_eq!(options(line).format, wanted, "{line}");
         }
     }
 
     #[test]
     fn wrong_usage() {
-        for line in [
-            "",
-            "-q",
-            "a b",
-            "--width",
-            "--width 6 a",
-            "--width 05 a",
-            "--width riscv a",
-            "--width= a",
-            "-b 5 a",
-            "--board",
-            "--board RISCV a",
-            "--board=arm a",
-            "-x a",
-            "--wid 32 a",
-            "--boards riscv a",
-            "--json=5 a",
-            "--slot a",
-            "--slots=1 a",
+        for (line, wanted) in [
+            ("", "no file"),
+            ("-q", "no file"),
+            ("--", "no file"),
+            ("--width", "option '--width' needs a value"),
+            ("-qw", "option '-w' needs a value"),
+            ("--board", "option '--board' needs a value"),
+            ("-w 6 a", "the width must be 32, 64 or 5, not '6'"),
+            ("-w06 a", "the width must be 32, 64 or 5, not '06'"),
+            ("--width= a", "the width must be 32, 64 or 5, not ''"),
+            (
+                "--width riscv a",
+                "the width must be 32, 64 or 5, not 'riscv'",
+            ),
+            (
+                "-b x86 a",
+                "the board must be arm32, arm64 or riscv, not 'x86'",
+            ),
+            ("-b 5 a", "the board must be arm32, arm64 or riscv, not '5'"),
+            (
+                "--board RISCV a",
+                "the board must be arm32, arm64 or riscv, not 'RISCV'",
+            ),
+            (
+                "--tree=utf-8 a",
+                "the tree must be ascii or utf8, not 'utf-8'",
+            ),
+            ("-x a", "unknown option '-x'"),
+            ("-jx a", "unknown option '-x'"),
+            ("-tutf8 a", "unknown option '-u'"),
+            ("--wid 32 a", "unknown option '--wid'"),
+            ("--boards riscv a", "unknown option '--boards'"),
+            ("--json=5 a", "option '--json' takes no value"),
+            ("--slots=1 a", "option '--slots' takes no value"),
         ] {
-            assert!(parsed(line).is_err(), "{line}");
+            assert_eq!(parsed(line), Err(wanted.to_string()), "{line}");
         }
-        let unknown = "the width must be 32, 64 or 5, not '6'";
-        assert_eq!(parsed("-w 6 a"), Err(unknown.to_string()));
-        let unknown = "the board must be arm32, arm64 or riscv, not 'x86'";
-        assert_eq!(parsed("-b x86 a"), Err(unknown.to_string()));
-        assert!(matches!(parsed("-"), Ok(Request::Run(_))));
-        assert!(matches!(parsed("-- -x"), Ok(Request::Run(_))));
     }
 }

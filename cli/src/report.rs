@@ -1,14 +1,18 @@
+// SPDX-License-Identifier: BSD-2-Clause OR GPL-2.0-or-later
 //! A refusal in words: a line for people, an object for programs.
 
 use crate::details::{self, Told};
 use crate::escape::{for_json, for_terminal};
 use crate::fault::Fault;
-use crate::messages;
+use crate::output::SCHEMA;
 use std::fmt;
+use sunderwath::{Place, Rule};
 
 #[derive(Clone, Debug, PartialEq, Eq)]
 pub struct Report {
-    pub number: u32,
+    pub rule: Rule,
+    /// A record, or for 33 the offset from the file's start.
+    pub place: u32,
     /// The path of the node, where one is known.
     pub node: Option<String>,
     /// The name of the property that the number speaks of, which may be missing.
@@ -19,11 +23,11 @@ pub struct Report {
 
 /// `sentence (details)`; a missing map is told in few words: `no cpu-map; 4 cpu nodes`
 fn message(told: &Told) -> String {
-    let number = told.refusal.number;
-    let (_, sentence) = messages::check_and_sentence(number);
+    let rule = told.refusal.rule;
+    let sentence = rule.sentence();
     match details::details(told) {
         None => sentence.to_string(),
-        Some(details) if number == 15 => format!("{sentence}; {details}"),
+        Some(details) if rule == Rule::CpuMapMissing => format!("{sentence}; {details}"),
         Some(details) => format!("{sentence} ({details})"),
     }
 }
@@ -31,7 +35,8 @@ fn message(told: &Told) -> String {
 impl Report {
     pub fn of_blob(fault: &Fault) -> Self {
         Report {
-            number: fault.number,
+            rule: fault.rule,
+            place: fault.place,
             node: fault.node().map(String::from),
             property: None,
             message: fault.message(),
@@ -40,7 +45,8 @@ impl Report {
 
     pub fn of_board(told: &Told) -> Self {
         Report {
-            number: told.refusal.number,
+            rule: told.refusal.rule,
+            place: told.refusal.place,
             node: Some(told.tables.path(told.node())),
             property: told.property_name(),
             message: message(told),
@@ -49,14 +55,14 @@ impl Report {
 
     /// The object that `--json` prints.
     pub fn json(&self, file: &str) -> String {
-        let (check, _) = messages::check_and_sentence(self.number);
         let or_null = |text: &Option<String>| text.as_deref().map_or("null".to_string(), for_json);
         format!(
-            "{{\n  \"file\": {},\n  \"number\": {},\n  \"check\": {},\n  \
-             \"node\": {},\n  \"property\": {},\n  \"message\": {}\n}}\n",
+            "{{\n  \"schema\": {SCHEMA},\n  \"file\": {},\n  \"number\": {},\n  \"check\": {},\n  \
+             \"place\": {},\n  \"node\": {},\n  \"property\": {},\n  \"message\": {}\n}}\n",
             for_json(file),
-            self.number,
-            for_json(check),
+            self.rule.number(),
+            for_json(self.rule.check_name()),
+            self.place,
             or_null(&self.node),
             or_null(&self.property),
             for_json(&self.message)
@@ -67,13 +73,13 @@ impl Report {
 /// `ERROR 21 (cpu_map_order): /cpus/cpu-map/cluster0/core6: sentence (core6, of 6 siblings)`
 impl fmt::Display for Report {
     fn fmt(&self, f: &mut fmt::Formatter) -> fmt::Result {
-        let (check, _) = messages::check_and_sentence(self.number);
-        write!(f, "ERROR {} ({check}): ", self.number)?;
+        let (number, check) = (self.rule.number(), self.rule.check_name());
+        write!(f, "ERROR {number} ({check}): ")?;
         if let Some(node) = &self.node {
             write!(f, "{}: ", for_terminal(node))?;
         }
         // The sentences of the other numbers name the property.
-        if let (7 | 8, Some(property)) = (self.number, &self.property) {
+        if let (Place::Property, Some(property)) = (self.rule.place(), &self.property) {
             write!(f, "{}: ", for_terminal(property))?;
         }
         write!(f, "{}", for_terminal(&self.message))
@@ -83,9 +89,9 @@ impl fmt::Display for Report {
 #[cfg(test)]
 mod tests {
     use super::*;
-    use crate::board::Refusal;
-    use crate::kind::Kind;
     use crate::tables::Tables;
+    use sunderwath::Kind;
+    use sunderwath::Refusal;
 
     fn of_blob(fault: Fault) -> String {
         Report::of_blob(&fault).to_string()
@@ -97,21 +103,21 @@ mod tests {
         let expected = "ERROR 33 (blob_structure): at offset 0x58: \
             the token stream breaks the specification's structure (FDT_PROP after a child node)";
         assert_eq!(of_blob(fault), expected);
-        let fault = Fault::of_blob(34, "it has 0".to_string());
+        let fault = Fault::of_blob(Rule::BlobCpus, "it has 0".to_string());
         let expected =
             "ERROR 34 (blob_cpus): /: the root must have exactly one child named cpus (it has 0)";
         assert_eq!(of_blob(fault), expected);
-        let fault = Fault::of_blob(35, String::new());
+        let fault = Fault::of_blob(Rule::TableSpace, String::new());
         let expected = "ERROR 35 (table_space): a table is too short for the records of /cpus";
         assert_eq!(of_blob(fault), expected);
     }
 
-    fn of_board(tables: &Tables, number: u32, place: u32) -> Report {
+    fn of_board(tables: &Tables, rule: Rule, place: u32) -> Report {
         Report::of_board(&Told {
             tables,
             kind: Kind::Arm64,
             refusal: Refusal {
-                number,
+                rule,
                 place,
                 property: None,
             },
@@ -123,14 +129,16 @@ mod tests {
         let nodes = [(0, "cpus"), (0, "cpu@0"), (1, "a\nb")];
         let tables = Tables::of_nodes(&nodes).with(2, "c\\", &[]);
         let sentence = "the node has this property twice";
-        let report = of_board(&tables, 8, 0);
+        let report = of_board(&tables, Rule::DuplicateProperty, 0);
         let line = format!("ERROR 8 (duplicate_property): /cpus/cpu@0/a\\nb: c\\\\: {sentence}");
         assert_eq!(report.to_string(), line);
         let object = format!(
             r#"{{
+  "schema": 1,
   "file": "a \"b\".dtb",
   "number": 8,
   "check": "duplicate_property",
+  "place": 0,
   "node": "/cpus/cpu@0/a\u000ab",
   "property": "c\\",
   "message": "{sentence}"
@@ -138,7 +146,7 @@ mod tests {
 "#
         );
         assert_eq!(report.json("a \"b\".dtb"), object);
-        let report = of_board(&tables, 22, 2);
+        let report = of_board(&tables, Rule::CpuMapDepth, 2);
         assert_eq!(
             (report.property, report.message.as_str()),
             (None, "more than four clusters are nested")

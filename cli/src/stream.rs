@@ -1,9 +1,11 @@
+// SPDX-License-Identifier: BSD-2-Clause OR GPL-2.0-or-later
 //! Follows the tokens of a whole structure block, in one pass and without recursion: where it breaks 33 and why, and what is
 //! kept when only /cpus is.
 
 use crate::fault::Fault;
-use crate::header::{word_at, Blocks, MAX_BLOB};
+use crate::header::{word_at, Blocks};
 use std::ops::Range;
+use sunderwath::MAX_BLOB;
 
 const BEGIN_NODE: u32 = 1;
 const END_NODE: u32 = 2;
@@ -52,7 +54,7 @@ struct Walk<'a> {
 }
 
 fn aligned(at: usize) -> usize {
-    at.next_multiple_of(4)
+    (at + 3) & !3
 }
 
 impl<'a> Walk<'a> {
@@ -89,8 +91,9 @@ impl<'a> Walk<'a> {
     fn property(&self) -> Result<(Token<'a>, usize), String> {
         let size = word_at(self.block, self.at + 4);
         let name = word_at(self.block, self.at + 8);
-        let (Some(size), Some(name)) = (size, name) else {
-            return Err("FDT_PROP leaves the block".to_string());
+        let (size, name) = match (size, name) {
+            (Some(size), Some(name)) => (size, name),
+            _ => return Err("FDT_PROP leaves the block".to_string()),
         };
         let value = self.at + 12;
         if size as usize > self.block.len() - value {

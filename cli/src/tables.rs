@@ -1,8 +1,8 @@
+// SPDX-License-Identifier: BSD-2-Clause OR GPL-2.0-or-later
 //! The records of the /cpus subtree, and the names, paths and values that messages and output need.
 
 use crate::escape;
-
-const NO_PARENT: u32 = u32::MAX;
+use sunderwath::{NODE_WORDS, NONE, PROPERTY_WORDS};
 
 /// Node words, property words and pool, as the library takes them. The pool is the blob.
 #[derive(Debug, Default)]
@@ -13,21 +13,29 @@ pub struct Tables {
 }
 
 impl Tables {
+    pub fn lent(&self) -> sunderwath::Tables<'_> {
+        sunderwath::Tables {
+            nodes: &self.nodes,
+            props: &self.props,
+            pool: &self.pool,
+        }
+    }
+
     fn bytes(&self, offset: u32, length: u32) -> &[u8] {
         &self.pool[offset as usize..offset as usize + length as usize]
     }
 
     pub fn node_count(&self) -> usize {
-        self.nodes.len() / 3
+        self.nodes.len() / NODE_WORDS
     }
 
     pub fn property_count(&self) -> usize {
-        self.props.len() / 5
+        self.props.len() / PROPERTY_WORDS
     }
 
     pub fn parent(&self, record: u32) -> Option<u32> {
-        let parent = self.nodes[3 * record as usize];
-        (parent != NO_PARENT).then_some(parent)
+        let parent = self.nodes[NODE_WORDS * record as usize];
+        (parent != NONE).then_some(parent)
     }
 
     /// The records with the same parent, the record itself among them.
@@ -38,7 +46,7 @@ impl Tables {
     }
 
     pub fn name_bytes(&self, record: u32) -> &[u8] {
-        let words = &self.nodes[3 * record as usize..];
+        let words = &self.nodes[NODE_WORDS * record as usize..];
         self.bytes(words[1], words[2])
     }
 
@@ -47,11 +55,11 @@ impl Tables {
     }
 
     pub fn property_node(&self, property: u32) -> u32 {
-        self.props[5 * property as usize]
+        self.props[PROPERTY_WORDS * property as usize]
     }
 
     pub fn property_name_bytes(&self, property: u32) -> &[u8] {
-        let words = &self.props[5 * property as usize..];
+        let words = &self.props[PROPERTY_WORDS * property as usize..];
         self.bytes(words[1], words[2])
     }
 
@@ -60,7 +68,7 @@ impl Tables {
     }
 
     pub fn value(&self, property: u32) -> &[u8] {
-        let words = &self.props[5 * property as usize..];
+        let words = &self.props[PROPERTY_WORDS * property as usize..];
         self.bytes(words[3], words[4])
     }
 
@@ -94,7 +102,7 @@ impl Tables {
     pub fn of_nodes(nodes: &[(u32, &str)]) -> Self {
         let mut tables = Tables::default();
         for (record, (parent, name)) in nodes.iter().enumerate() {
-            let parent = if record == 0 { NO_PARENT } else { *parent };
+            let parent = if record == 0 { NONE } else { *parent };
             let [offset, length] = tables.put(name.as_bytes());
             tables.nodes.extend([parent, offset, length]);
         }

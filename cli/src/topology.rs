@@ -1,3 +1,4 @@
+// SPDX-License-Identifier: BSD-2-Clause OR GPL-2.0-or-later
 //! The parts of the subtree that messages speak of: cpu nodes, the map and its leaves.
 
 use crate::tables::Tables;
@@ -33,7 +34,7 @@ impl Tables {
     /// The records below the map that have no children: in a map whose names and kinds are sound, its cores and threads.
     pub fn leaves(&self) -> impl Iterator<Item = u32> + '_ {
         let map = self.map();
-        let below = move |record| map.is_some_and(|map| self.is_below(record, map));
+        let below = move |record| map.map_or(false, |map| self.is_below(record, map));
         self.records()
             .filter(move |&record| below(record) && !self.has_children(record))
     }

@@ -1,8 +1,12 @@
+// SPDX-License-Identifier: BSD-2-Clause OR GPL-2.0-or-later
 //! The manual page and the header name what the program has.
 
-use sunderwath::kind::Kind;
-use sunderwath::messages::check_and_sentence;
-use sunderwath::options::USAGE;
+use std::process::Command;
+use sunderwath::texts as check_and_sentence;
+use sunderwath::Kind;
+use sunderwath_cli::help::USAGE;
+use sunderwath_cli::kind::Wording;
+use sunderwath_cli::options;
 
 const MANUAL: &str = include_str!("../../docs/sunderwath.1");
 
@@ -39,7 +43,62 @@ fn manual_lists_the_options() {
         .split_whitespace()
         .filter(|word| word.starts_with("--"));
     for option in options {
+        let option = option.split('[').next().unwrap_or(option);
         let escaped = option.replace('-', "\\-");
         assert!(MANUAL.contains(&escaped), "{option}");
+    }
+}
+
+/// Both names of each option in the help are known, and take each value that stands there.
+#[test]
+fn help_lists_known_options() {
+    let options: Vec<&str> = USAGE
+        .lines()
+        .filter_map(|line| line.strip_prefix("  -"))
+        .collect();
+    assert_eq!(options.len(), 10);
+    for line in options {
+        let (short, long) = line.split_once(", ").expect("two names");
+        let letters = |letter: char| letter == '-' || letter.is_ascii_lowercase();
+        let (name, rest) = long.split_at(long.find(|c| !letters(c)).unwrap_or(long.len()));
+        let values = match rest.strip_prefix(' ') {
+            Some(values) if !values.starts_with(' ') => values.split('|').collect(),
+            _ => vec![],
+        };
+        let mut uses = vec![format!("-{short}"), name.to_string()];
+        if !values.is_empty() {
+            let joined = |value: &&str| [format!("-{short}{value}"), format!("{name}={value}")];
+            uses = values.iter().flat_map(joined).collect();
+        }
+        for option in uses {
+            let parsed = options::parse([option.clone(), "file".to_string()].map(From::from));
+            assert!(parsed.is_ok(), "{option}: {parsed:?}");
+        }
+    }
+}
+
+/// The page names the version, and every device can print it.
+#[test]
+fn manual_is_of_this_version() {
+    let title = format!(
+        ".TH SUNDERWATH 1 \"\" \"sunderwath {}\" ",
+        sunderwath::VERSION
+    );
+    assert!(MANUAL.contains(&title), "{title}");
+    assert_eq!(sunderwath::VERSION, env!("CARGO_PKG_VERSION"));
+    assert!(MANUAL.is_ascii());
+}
+
+/// Where groff is installed.
+#[test]
+fn manual_has_no_warnings() {
+    let page = concat!(env!("CARGO_MANIFEST_DIR"), "/../docs/sunderwath.1");
+    let arguments = ["-man", "-Tascii", "-ww", "-z", page];
+    match Command::new("groff").args(arguments).output() {
+        Ok(output) => {
+            let warnings = String::from_utf8_lossy(&output.stderr);
+            assert!(output.status.success() && warnings.is_empty(), "{warnings}");
+        }
+        Err(error) => println!("groff: {error}: not checked"),
     }
 }

@@ -1,9 +1,11 @@
+// SPDX-License-Identifier: BSD-2-Clause OR GPL-2.0-or-later
 //! The header's enumeration and the texts of include/sunderwath_text.c have the same numbers, and every other number is unknown. The
 //! header's board numbers are those of the program.
 
 use std::collections::BTreeMap;
-use sunderwath::kind::Kind;
-use sunderwath::messages::check_and_sentence;
+use sunderwath::texts as check_and_sentence;
+use sunderwath::Kind;
+use sunderwath_cli::kind::Wording;
 
 const HEADER: &str = include_str!("../../include/sunderwath.h");
 const TEXTS: &str = include_str!("../../include/sunderwath_text.c");

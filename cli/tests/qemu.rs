@@ -1,3 +1,4 @@
+// SPDX-License-Identifier: BSD-2-Clause OR GPL-2.0-or-later
 //! Reads the boards that QEMU makes for its `virt` machines, ARM and RISC-V, where QEMU is installed.
 
 use std::collections::HashSet;

@@ -7,8 +7,7 @@ use crate::build::Board;
 use crate::compare::second_tables;
 use crate::second::{self, Kind};
 use std::fmt::{Display, Write};
-
-const ROW_WORDS: usize = 12;
+use sunderwath::ROW_WORDS;
 
 /// The kinds of cases.
 const BOARD: u32 = 0;

@@ -3,21 +3,15 @@
 use crate::answer::Answer;
 use crate::build::shrink::shrink;
 use crate::build::{text, Board};
-use crate::{fast, second};
-
-#[cfg(feature = "board")]
-use crate::ffi;
+use crate::{fast, ffi, second};
 
 /// Marks words that have to stay as they are.
-#[cfg(feature = "board")]
 const PATTERN: u32 = 0x5AFE_C0DE;
 
 /// Words around the lent row buffer.
-#[cfg(feature = "board")]
 const GUARD: usize = 16;
 
 /// The library's answer and the row buffer with the words around it.
-#[cfg(feature = "board")]
 pub fn library(board: &Board) -> (Answer, Vec<u32>) {
     let mut buffer = vec![PATTERN; board.room + 2 * GUARD];
     let rows = &mut buffer[GUARD..GUARD + board.room];
@@ -39,7 +33,6 @@ fn wanted(board: &Board) -> Wanted {
 }
 
 /// The library's answer and buffer against the second reader's.
-#[cfg(feature = "board")]
 fn library_differs(board: &Board, (wanted, rows): &Wanted) -> Option<String> {
     let (answer, buffer) = library(board);
     if answer != *wanted {
@@ -83,7 +76,6 @@ fn report(board: &Board, differs: fn(&Board, &Wanted) -> Option<String>) -> Stri
 }
 
 /// The answer that all readers give, or the report of a disagreement.
-#[cfg(feature = "board")]
 pub fn compare(board: &Board) -> Result<Answer, String> {
     let told = wanted(board);
     if library_differs(board, &told).is_some() {
@@ -93,13 +85,4 @@ pub fn compare(board: &Board) -> Result<Answer, String> {
         return Err(report(board, fast_differs));
     }
     Ok(told.0)
-}
-
-/// The same without the library.
-pub fn compare_fast(board: &Board) -> Result<Answer, String> {
-    let told = wanted(board);
-    match fast_differs(board, &told) {
-        Some(_) => Err(report(board, fast_differs)),
-        None => Ok(told.0),
-    }
 }

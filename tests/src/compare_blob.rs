@@ -7,6 +7,7 @@ use crate::build::loader::Lent;
 use crate::ffi;
 use crate::lent_bytes::Part;
 use crate::second::{self, Told, MOST_NODES, MOST_PROPERTIES};
+use sunderwath::ROW_WORDS;
 
 /// The three parts of a call.
 struct Parts {
@@ -69,7 +70,7 @@ fn by_tables(blob: &[u8], lent: Lent) -> (Answer, Vec<u32>) {
     let nodes = &nodes[..3 * flat.nodes as usize];
     let props = &props[..5 * flat.props as usize];
     let answer = ffi::read_tables(lent.width, nodes, props, blob, &mut rows);
-    rows.truncate(12 * answer.count as usize);
+    rows.truncate(ROW_WORDS * answer.count as usize);
     (answer, rows)
 }
 

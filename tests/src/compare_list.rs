@@ -18,7 +18,7 @@ pub fn agreed_slot(mpidr: u64, list: &[u8], answer_n: usize, start: usize) -> To
     assert_eq!(number, told.number(), "number given back: {}", question());
     assert_eq!(answer.difference("answer", &wanted), None, "{}", question());
     assert_eq!(lent.difference("list", &Part::of(list, start)), None);
-    if let (Some(words), true) = (told.words(), list.len().is_multiple_of(8)) {
+    if let (Some(words), true) = (told.words(), list.len() % 8 == 0) {
         assert_eq!(words, by_words(mpidr, list), "list_slot of {}", question());
     }
     told
@@ -26,11 +26,8 @@ pub fn agreed_slot(mpidr: u64, list: &[u8], answer_n: usize, start: usize) -> To
 
 /// Number, place, second place and slot of the library's call on words.
 fn by_words(mpidr: u64, list: &[u8]) -> [u32; 4] {
-    let chunks = list.as_chunks().0;
-    let list: Vec<u64> = chunks
-        .iter()
-        .map(|&bytes| u64::from_le_bytes(bytes))
-        .collect();
+    let mpidr_of = |bytes: &[u8]| u64::from_le_bytes(bytes.try_into().expect("eight bytes"));
+    let list: Vec<u64> = list.chunks_exact(8).map(mpidr_of).collect();
     let answer = ffi::list_slot(mpidr, &list);
     [answer.number, answer.place, answer.second, answer.count]
 }

@@ -9,10 +9,9 @@ use crate::ffi;
 use crate::rng::Rng;
 use crate::second::{self, ReadSlots, SLOT_NUMBERS};
 use crate::width::RISCV;
+use sunderwath::layout::{ROW_SLOT, ROW_WORDS};
 
 const GAP: u32 = u32::MAX;
-const ROW_WORDS: usize = 12;
-const SLOT_WORD: usize = 11;
 
 /// Words before and behind each lent buffer.
 const GUARD: usize = 16;
@@ -137,7 +136,7 @@ fn plain_differs(board: &Board, lent: Lent, read: &ReadSlots) -> Option<String> 
 /// W7 of an accepted RISC-V board: no row has a slot, and the one entry is GAP.
 fn gaps_fail(read: &ReadSlots) -> Option<String> {
     let (rows, table) = filled(read);
-    let words = rows.iter().map(|row| row[SLOT_WORD]).chain([table[0]]);
+    let words = rows.iter().map(|row| row[ROW_SLOT]).chain([table[0]]);
     let other = words.enumerate().find(|&(_, word)| word != GAP);
     let one_entry = table.len() == 1;
     (other.is_some() || !one_entry).then(|| format!("no GAP {other:x?}, entries {}", table.len()))
@@ -152,7 +151,7 @@ fn facts_fail(width: u32, read: &ReadSlots) -> Option<String> {
         _ => return None,
     }
     let (rows, table) = filled(read);
-    let slot = |row: &&[u32]| row[SLOT_WORD];
+    let slot = |row: &&[u32]| row[ROW_SLOT];
     let lost = |&at: &usize| table.get(slot(&rows[at]) as usize) != Some(&(at as u32));
     if let Some(row) = (0..rows.len()).find(lost) {
         return Some(format!("row {row} is not found from its slot"));
@@ -236,7 +235,7 @@ mod tests {
         assert!(!fails_with(&board, &[(1, 0)]));
         assert!(fails_with(&board, &[(0, 0)]));
         let mut read = second_slots(&board, LENT);
-        inner_mut(&mut read.rows)[ROW_WORDS + SLOT_WORD] = 0;
+        inner_mut(&mut read.rows)[ROW_WORDS + ROW_SLOT] = 0;
         assert!(facts_fail(RISCV, &read).is_some());
     }
 

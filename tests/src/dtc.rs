@@ -9,7 +9,7 @@ pub fn sources() -> Vec<PathBuf> {
     let files = std::fs::read_dir(folder).expect("boards/ can be read");
     let mut list: Vec<PathBuf> = files
         .map(|file| file.expect("boards/ can be read").path())
-        .filter(|path| path.extension().is_some_and(|e| e == "dts"))
+        .filter(|path| path.extension().map_or(false, |e| e == "dts"))
         .collect();
     list.sort();
     list

@@ -5,13 +5,9 @@ pub mod answer;
 pub mod build;
 pub mod cases;
 pub mod compare;
-#[cfg(feature = "loader")]
 pub mod compare_blob;
-#[cfg(feature = "flat")]
 pub mod compare_flat;
-#[cfg(feature = "loader")]
 pub mod compare_list;
-#[cfg(feature = "board")]
 pub mod compare_slots;
 pub mod counts;
 pub mod dtc;

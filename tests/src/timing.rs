@@ -1,6 +1,18 @@
 //! Best of several repetitions, for the benchmarks.
 
+use std::arch::asm;
 use std::time::Instant;
+
+/// A value that the compiler knows nothing of, as the standard library's
+/// black_box gives it, which Debian's compiler does not have yet.
+#[inline]
+pub fn black_box<T>(mut value: T) -> T {
+    let place: *mut T = &mut value;
+    // SAFETY: there is no instruction. The compiler has to suppose that there is
+    // one that reads and writes the value.
+    unsafe { asm!("/* {0} */", in(reg) place, options(nostack, preserves_flags)) };
+    value
+}
 
 /// Nanoseconds of one call of each job: the best of `rounds` repetitions, in
 /// which the jobs take turns.

@@ -1,5 +1,6 @@
 //! read_tables against the second reader.
 
+use sunderwath::ROW_WORDS;
 use sunderwath_tests::answer::{Answer, ANSWER_WORDS, SHORT_ANSWER};
 use sunderwath_tests::build::faults::{self, rename, with_faults, Fault};
 use sunderwath_tests::build::mix::{any_board, large_board};
@@ -24,7 +25,7 @@ fn agreed(board: &Board) -> (Answer, Vec<u32>) {
         panic!("{report}");
     }
     let (answer, buffer) = library(board);
-    let words = 12 * answer.count as usize;
+    let words = ROW_WORDS * answer.count as usize;
     (answer, buffer[GUARD..GUARD + words].to_vec())
 }
 
@@ -58,7 +59,7 @@ fn whole_case() {
         [3, 6, 0, 0x100, GAP, 0, GAP, GAP, GAP, 0, GAP, 1],
         [4, 5, 0, 0, GAP, 0, GAP, GAP, GAP, 1, GAP, 0],
     ];
-    assert_eq!(rows, expected.as_flattened());
+    assert_eq!(rows, expected.concat());
 }
 
 #[test]
@@ -72,7 +73,7 @@ fn example_1() {
         ..Answer::default()
     };
     assert_eq!(answer, expected);
-    for (at, row) in rows.chunks(12).enumerate() {
+    for (at, row) in rows.chunks(ROW_WORDS).enumerate() {
         let bit = |n: usize| (at >> n & 1) as u32;
         let lower = bit(2) << 16 | bit(1) << 8 | bit(0);
         let path = [0, bit(3), bit(2), GAP, GAP, bit(1), bit(0)];
@@ -94,7 +95,7 @@ fn example_2() {
             ..Answer::default()
         };
         assert_eq!(answer, expected);
-        for (at, row) in rows.chunks(12).enumerate() {
+        for (at, row) in rows.chunks(ROW_WORDS).enumerate() {
             let at = at as u32;
             let (cluster, core) = (at / 4, at % 4);
             assert_eq!(row[2..4], [0, cluster << 8 | core]);
@@ -126,7 +127,7 @@ fn slips_to_keep_out() {
     for (mpidrs, slots) in lists {
         let (answer, rows) = agreed(&Board::of(64, &cores(mpidrs)));
         assert_eq!(answer.number, 0);
-        for (row, slot) in rows.chunks(12).zip(slots) {
+        for (row, slot) in rows.chunks(ROW_WORDS).zip(slots) {
             assert_eq!((row[4], row[11]), (GAP, *slot));
         }
     }
@@ -363,7 +364,7 @@ fn siblings_out_of_order() {
         [4, 5, 0, 0, GAP, 0, GAP, GAP, GAP, 0, GAP, 0],
     ];
     assert_eq!((answer.number, answer.count), (0, 2));
-    assert_eq!(rows, expected.as_flattened());
+    assert_eq!(rows, expected.concat());
     let (answer, rows) = agreed(&Board::of(32, &order::threads_swapped()));
     let expected = [
         [5, 8, 0, 0, 0, 0, GAP, GAP, GAP, 0, 1, 0],
@@ -371,11 +372,11 @@ fn siblings_out_of_order() {
         [7, 10, 0, 2, 0, 0, GAP, GAP, GAP, 1, GAP, 2],
     ];
     assert_eq!((answer.number, answer.count), (0, 3));
-    assert_eq!(rows, expected.as_flattened());
+    assert_eq!(rows, expected.concat());
     let column = |width, root: &Node, word: usize| {
         let (answer, rows) = agreed(&Board::of(width, root));
         assert_eq!(answer.number, 0);
-        let words = rows.chunks(12).map(|row| (row[0], row[word]));
+        let words = rows.chunks(ROW_WORDS).map(|row| (row[0], row[word]));
         words.collect::<Vec<_>>()
     };
     let clusters = [3, 4, 5, 6].map(|leaf| (leaf, 1));
@@ -395,7 +396,11 @@ fn siblings_out_of_order_on_all_levels() {
     let (reversed_answer, reversed_rows) = agreed(&Board::of(64, &root));
     assert_eq!(reversed_answer, answer);
     let mut leaf = 0;
-    for (row, falling) in rows.chunks(12).rev().zip(reversed_rows.chunks(12)) {
+    for (row, falling) in rows
+        .chunks(ROW_WORDS)
+        .rev()
+        .zip(reversed_rows.chunks(ROW_WORDS))
+    {
         assert_eq!(row[1..], falling[1..]);
         assert!(falling[0] > leaf);
         leaf = falling[0];
@@ -651,7 +656,7 @@ fn row_buffers() {
     let sizes = [1, 2, 3, 16, 256].map(|cpus| [(ARM64, cpus), (RISCV, cpus)]);
     for (width, cpus) in sizes.into_iter().flatten() {
         let mut board = Board::of(width, &regular_board_of(width, cpus));
-        let need = 12 * cpus;
+        let need = ROW_WORDS * cpus;
         let lengths = (0..=40).chain(need.saturating_sub(25)..need + 26);
         for room in lengths {
             board.room = room;

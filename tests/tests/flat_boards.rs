@@ -94,7 +94,7 @@ fn worked_boards_as_tables_and_as_blobs() {
         let wanted = told(&Board::of(width, &root));
         assert_eq!(told(&board_of(&blob::write(&root), width)), wanted);
         let sources = sources();
-        let stem = |path: &&PathBuf| path.file_stem().is_some_and(|stem| stem == name);
+        let stem = |path: &&PathBuf| path.file_stem().map_or(false, |stem| stem == name);
         let source = sources.iter().find(stem).expect("the board is there");
         assert_eq!(
             told(&board_of(&compiled(source, &[]), width)),

@@ -62,7 +62,7 @@ fn bytes_by_hand() {
     let row = |leaf, cpu, mpidr, core, slot| {
         let path = [GAP, word(0), GAP, GAP, GAP, word(core), GAP];
         let start = [word(leaf), word(cpu), word(0), mpidr];
-        [start.as_flattened(), path.as_flattened(), &word(slot)].concat()
+        [&start[..], &path, &[word(slot)]].concat().concat()
     };
     let rows = [row(3, 6, [0, 1, 0, 0], 0, 1), row(4, 5, word(0), 1, 0)];
     let mut lent = ([0xA5; 97], [0xA5; 17]);
@@ -71,7 +71,7 @@ fn bytes_by_hand() {
     assert_eq!(number, 0);
     assert_eq!(lent.0[..96], *rows.concat());
     let answer = [word(0), word(0), GAP, word(2)];
-    assert_eq!(lent.1[..16], *answer.as_flattened());
+    assert_eq!(lent.1[..16], *answer.concat());
     assert_eq!((lent.0[96], lent.1[16]), (0xA5, 0xA5));
 }
 

@@ -31,7 +31,10 @@ fn long_rows() {
     let board = blob::write(&whole_case());
     let wanted = read_blob(64, &board, 96, 16);
     for more in [0, 5, 95] {
-        let Some(mut rows) = zeros(more) else { return };
+        let mut rows = match zeros(more) {
+            Some(rows) => rows,
+            None => return,
+        };
         let mut answer = [0; 16];
         assert_eq!(ffi::read_blob_into(64, &board, &mut rows, &mut answer), 0);
         assert_eq!(answer, *wanted.answer_bytes());
@@ -46,8 +49,9 @@ fn long_answers() {
     let board = blob::write(&whole_case());
     let wanted = read_blob(64, &board, 96, 16).answer_bytes();
     for more in [0, 15] {
-        let Some(mut answer) = zeros(more) else {
-            return;
+        let mut answer = match zeros(more) {
+            Some(answer) => answer,
+            None => return,
         };
         let mut rows = [0; 96];
         assert_eq!(ffi::read_blob_into(64, &board, &mut rows, &mut answer), 0);
@@ -62,8 +66,9 @@ fn long_answers() {
 #[test]
 fn long_blobs_and_lists() {
     let board = blob::write(&whole_case());
-    let Some(mut bytes) = zeros(board.len().next_multiple_of(8)) else {
-        return;
+    let mut bytes = match zeros((board.len() + 7) / 8 * 8) {
+        Some(bytes) => bytes,
+        None => return,
     };
     let mut answer = [0; 16];
     for length in [BEYOND + 8, BEYOND + 16, bytes.len()] {

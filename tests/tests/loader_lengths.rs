@@ -69,7 +69,14 @@ fn every_start() {
 #[test]
 fn much_room() {
     let blob = blob::write(&whole_case());
-    for rows in [97, 1000, 48 * 256, 48 * 256 + 1, 70_001, 1 << 20] {
+    for rows in [
+        97,
+        1000,
+        ROW_BYTES * 256,
+        ROW_BYTES * 256 + 1,
+        70_001,
+        1 << 20,
+    ] {
         let lent = Lent {
             rows,
             answer: rows,

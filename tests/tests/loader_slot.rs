@@ -38,20 +38,20 @@ fn bytes_by_hand() {
     let mut answer = [0xA5; 17];
     // The mask is 0x1_0000_0082: six places between its ones of level 0, then
     // the one of level 3.
-    let number = ffi::slot_into(0x1_0000_0080, list.as_flattened(), &mut answer);
+    let number = ffi::slot_into(0x1_0000_0080, &list.concat(), &mut answer);
     assert_eq!(number, 0);
     let wanted = [
         0, 0, 0, 0, 0, 0, 0, 0, 0xFF, 0xFF, 0xFF, 0xFF, 0xC0, 0, 0, 0, 0xA5,
     ];
     assert_eq!(answer, wanted);
-    let number = ffi::slot_into(0x80, list.as_flattened(), &mut answer);
+    let number = ffi::slot_into(0x80, &list.concat(), &mut answer);
     assert_eq!(number, 30);
     let wanted = [
         30, 0, 0, 0, 0, 0, 0, 0, 0xFF, 0xFF, 0xFF, 0xFF, 0, 0, 0, 0, 0xA5,
     ];
     assert_eq!(answer, wanted);
     let bad = [list[0], list[1], [0, 0, 0, 0, 0, 1, 0, 0]];
-    let number = ffi::slot_into(2, bad.as_flattened(), &mut answer);
+    let number = ffi::slot_into(2, &bad.concat(), &mut answer);
     assert_eq!(number, 29);
     let wanted = [
         29, 0, 0, 0, 2, 0, 0, 0, 0xFF, 0xFF, 0xFF, 0xFF, 0, 0, 0, 0, 0xA5,

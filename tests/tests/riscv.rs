@@ -1,6 +1,7 @@
 //! RISC-V boards through read_tables and read_tables_slots, against the second
 //! reader and by hand: hart ids, rows without slots, refusals, widths.
 
+use sunderwath::ROW_WORDS;
 use sunderwath_tests::answer::{Answer, NO_PROPERTY};
 use sunderwath_tests::build::property_faults::second_place;
 use sunderwath_tests::build::worked::{self, cores, cpu_node, harts, SPARSE_HARTS};
@@ -46,7 +47,7 @@ fn agreed(board: &Board) -> Answer {
 fn rows_of(board: &Board) -> Vec<u32> {
     let count = agreed(board).count as usize;
     assert_eq!(agreed(board), accepted(count), "{}", text::write(board));
-    library(board).1[GUARD..GUARD + 12 * count].to_vec()
+    library(board).1[GUARD..GUARD + ROW_WORDS * count].to_vec()
 }
 
 /// All eleven words of a refusal.
@@ -59,8 +60,8 @@ fn expect(board: &Board, number: u32, place: usize) {
 /// Words 2, 3 and 11 of the rows of one cluster of harts, in the order of these.
 fn expect_harts(ids: &[u32]) {
     let rows = rows_of(&Board::of(RISCV, &harts(ids)));
-    assert_eq!(rows.len(), 12 * ids.len());
-    for (row, &id) in rows.chunks(12).zip(ids) {
+    assert_eq!(rows.len(), ROW_WORDS * ids.len());
+    for (row, &id) in rows.chunks(ROW_WORDS).zip(ids) {
         assert_eq!([row[2], row[3], row[11]], [0, id, GAP]);
     }
 }
@@ -88,13 +89,13 @@ fn rows_by_hand() {
         [3, 5, 0, u32::MAX, GAP, 0, GAP, GAP, GAP, 0, GAP, GAP],
         [4, 6, 0, 0, GAP, 0, GAP, GAP, GAP, 1, GAP, GAP],
     ];
-    assert_eq!(rows, expected.as_flattened());
+    assert_eq!(rows, expected.concat());
     let rows = rows_of(&Board::of(RISCV, &worked::whole_case()));
     let expected = [
         [3, 6, 0, 0x100, GAP, 0, GAP, GAP, GAP, 0, GAP, GAP],
         [4, 5, 0, 0, GAP, 0, GAP, GAP, GAP, 1, GAP, GAP],
     ];
-    assert_eq!(rows, expected.as_flattened());
+    assert_eq!(rows, expected.concat());
     let mut threads = worked::lone_socket();
     threads.at(9).set("reg", cell(0x8000_0000));
     let rows = rows_of(&Board::of(RISCV, &threads));
@@ -103,7 +104,7 @@ fn rows_by_hand() {
         [6, 9, 0, 0x8000_0000, 0, 0, GAP, GAP, GAP, 0, 1, GAP],
         [7, 10, 0, 2, 0, 0, GAP, GAP, GAP, 1, GAP, GAP],
     ];
-    assert_eq!(rows, expected.as_flattened());
+    assert_eq!(rows, expected.concat());
 }
 
 /// What read_tables_slots leaves in rows, table and answer that are longer than
@@ -133,13 +134,13 @@ fn tables_by_hand() {
     let rows = [
         [3, 5, 0, 0, GAP, 0, GAP, GAP, GAP, 0, GAP, GAP],
         [4, 6, 0, 0x1FFF, GAP, 0, GAP, GAP, GAP, 1, GAP, GAP],
-        [P; 12],
+        [P; ROW_WORDS],
     ];
     let table = [P, GAP, P, P, P, P, P, P];
     let answer = [0, 0, 2, 0, 0, 0, 8, 16, 32, 0, NO_PROPERTY, P, P];
     for entries in 1..=7 {
         let (rows_left, table_left, answer_left) = left_by(&board, entries);
-        assert_eq!(rows_left, rows.as_flattened());
+        assert_eq!(rows_left[..], rows.concat());
         assert_eq!((table_left, answer_left), (table, answer));
     }
 }
@@ -299,12 +300,13 @@ fn unmapped_harts_and_rooms() {
     let mut root = harts(&[0, u32::MAX]);
     root.children.push(cpu_node(1, 0x8000_0000, 3));
     expect(&Board::of(RISCV, &root), 26, 7);
-    for room in 0..=26 {
+    for room in 0..=2 * ROW_WORDS + 2 {
         let board = Board::of(RISCV, &harts(&[0, u32::MAX]));
         let board = Board { room, ..board };
-        match room {
-            0..24 => expect(&board, 27, 0),
-            _ => assert_eq!(agreed(&board), accepted(2)),
+        if room < 2 * ROW_WORDS {
+            expect(&board, 27, 0);
+        } else {
+            assert_eq!(agreed(&board), accepted(2));
         }
     }
 }

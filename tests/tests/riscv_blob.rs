@@ -1,6 +1,7 @@
 //! RISC-V boards through read_blob, against the second reader, by hand, and as
 //! dtc compiles them.
 
+use sunderwath::ROW_WORDS;
 use sunderwath_tests::answer::NO_PROPERTY;
 use sunderwath_tests::build::blob;
 use sunderwath_tests::build::loader::{any_blob, Lent, ROW_BYTES};
@@ -45,7 +46,7 @@ fn bytes_by_hand() {
     let row = |leaf, hart, core| {
         let start = [word(leaf), word(leaf + 2), word(0), hart];
         let path = [OF_GAP, word(0), OF_GAP, OF_GAP, OF_GAP, word(core), OF_GAP];
-        [start.as_flattened(), path.as_flattened(), &OF_GAP].concat()
+        [&start[..], &path, &[OF_GAP]].concat().concat()
     };
     let rows = [row(3, [0x78, 0x56, 0x34, 0x92], 0), row(4, word(0), 1)];
     let mut lent = ([0xA5; 100], [0xA5; 19]);
@@ -54,7 +55,7 @@ fn bytes_by_hand() {
     assert_eq!(number, 0);
     assert_eq!(lent.0[..96], *rows.concat());
     let answer = [word(0), word(0), OF_GAP, word(2)];
-    assert_eq!(lent.1[..16], *answer.as_flattened());
+    assert_eq!(lent.1[..16], *answer.concat());
     assert_eq!(
         (&lent.0[96..], &lent.1[16..]),
         (&[0xA5; 4][..], &[0xA5; 3][..])
@@ -78,7 +79,7 @@ fn hart_ids() {
     ] {
         let told = told(&harts(ids));
         assert_eq!(told.words(), Some([0, 0, NO_PROPERTY, ids.len() as u32]));
-        for (row, &id) in told.rows.chunks(12).zip(ids) {
+        for (row, &id) in told.rows.chunks(ROW_WORDS).zip(ids) {
             assert_eq!([row[2], row[3], row[11]], [0, id, GAP]);
         }
     }
@@ -125,7 +126,7 @@ fn as_many_harts_as_allowed() {
         };
         let told = agreed_blob(&blob::write(&harts(&ids)), lent);
         assert_eq!(told.number(), number);
-        assert!(told.rows.chunks(12).all(|row| row[11] == GAP));
+        assert!(told.rows.chunks(ROW_WORDS).all(|row| row[11] == GAP));
     }
 }
 
@@ -195,8 +196,9 @@ fn boards_of_dtc() {
             "{}",
             source.display()
         );
-        let Some(number) = number else {
-            continue;
+        let number = match number {
+            Some(number) => number,
+            None => continue,
         };
         let wanted = agreed_blob(&compiled(&source, &[]), lent(RISCV));
         assert_eq!(wanted.number(), number, "{}", source.display());
@@ -206,9 +208,9 @@ fn boards_of_dtc() {
         }
         assert!(wanted
             .rows
-            .chunks(12)
+            .chunks(ROW_WORDS)
             .all(|row| row[2] == 0 && row[11] == GAP));
-        harts += wanted.rows.len() / 12;
+        harts += wanted.rows.len() / ROW_WORDS;
     }
     println!("{harts} harts of boards that are accepted");
     assert!(harts > 10);

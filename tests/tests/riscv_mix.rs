@@ -2,6 +2,7 @@
 //! boards.
 
 use std::collections::BTreeMap;
+use sunderwath::layout::{ROW_SLOT, ROW_WORDS};
 use sunderwath_tests::answer::Answer;
 use sunderwath_tests::build::damage::spoil_tree;
 use sunderwath_tests::build::shapes::{regular_board_of, valid_tree};
@@ -15,14 +16,13 @@ use sunderwath_tests::width::{ARM32, ARM64, RISCV};
 
 const GAP: u32 = u32::MAX;
 const GUARD: usize = 16;
-const SLOT_WORD: usize = 11;
 
 fn agreed(board: &Board) -> (Answer, Vec<u32>) {
     if let Err(report) = compare(board) {
         panic!("{report}");
     }
     let (answer, buffer) = library(board);
-    let words = 12 * answer.count as usize;
+    let words = ROW_WORDS * answer.count as usize;
     (answer, buffer[GUARD..GUARD + words].to_vec())
 }
 
@@ -68,11 +68,14 @@ fn sound_boards() {
             text::write(&board)
         );
         assert_eq!((answer.shifts, answer.bits), ([0, 8, 16, 32], 0));
-        let pairs = rows.chunks(12).map(|row| (row[1], row[3]));
+        let pairs = rows.chunks(ROW_WORDS).map(|row| (row[1], row[3]));
         assert_eq!(pairs.collect::<BTreeMap<_, _>>(), ids(&root));
-        let others = |row: &[u32]| row[2] == 0 && row[SLOT_WORD] == GAP;
-        assert!(rows.chunks(12).all(others));
-        high += rows.chunks(12).filter(|row| row[3] >> 24 != 0).count();
+        let others = |row: &[u32]| row[2] == 0 && row[ROW_SLOT] == GAP;
+        assert!(rows.chunks(ROW_WORDS).all(others));
+        high += rows
+            .chunks(ROW_WORDS)
+            .filter(|row| row[3] >> 24 != 0)
+            .count();
         harts += answer.count as usize;
         let entries = rng.below(4);
         let number = with_table(&board, entries, rng.wide());
@@ -100,9 +103,9 @@ fn the_same_board_with_slots_and_without() {
         let (answer, of_harts) = agreed(&board);
         let counts = [of_64, answer].map(|answer| (answer.number, answer.count));
         assert_eq!(counts[0], counts[1]);
-        for row in rows.chunks_mut(12) {
-            slots += usize::from(row[SLOT_WORD] != GAP);
-            row[SLOT_WORD] = GAP;
+        for row in rows.chunks_mut(ROW_WORDS) {
+            slots += usize::from(row[ROW_SLOT] != GAP);
+            row[ROW_SLOT] = GAP;
         }
         assert_eq!(rows, of_harts);
     }
@@ -121,7 +124,7 @@ fn the_same_refusals() {
         let mut root = valid_tree(&mut rng, ARM32, 6);
         spoil_tree(&mut rng, &mut root);
         let mut board = lay_out(&mut rng, ARM32, &root);
-        board.room = rng.below(12 * 8);
+        board.room = rng.below(8 * ROW_WORDS);
         let (of_arm, _) = agreed(&board);
         board.width = RISCV;
         let (answer, _) = agreed(&board);
@@ -149,7 +152,10 @@ fn regular_boards() {
             let board = Board::of(width, &regular_board_of(width, cpus));
             let (answer, rows) = agreed(&board);
             assert_eq!((answer.number, answer.count as usize), (0, cpus));
-            let gaps = rows.chunks(12).filter(|row| row[SLOT_WORD] == GAP).count();
+            let gaps = rows
+                .chunks(ROW_WORDS)
+                .filter(|row| row[ROW_SLOT] == GAP)
+                .count();
             assert_eq!(gaps, if width == RISCV { cpus } else { 0 });
         }
     }

@@ -1,5 +1,6 @@
 //! read_tables_slots against the second reader, read_tables and W5's facts.
 
+use sunderwath::ROW_WORDS;
 use sunderwath_tests::answer::{Answer, ANSWER_WORDS, NO_PROPERTY, SHORT_ANSWER};
 use sunderwath_tests::build::faults::{self, with_faults, Change, Fault};
 use sunderwath_tests::build::mix::large_board;
@@ -103,9 +104,9 @@ fn whole_case() {
     let expected = [
         [3, 6, 0, 0x100, GAP, 0, GAP, GAP, GAP, 0, GAP, 1],
         [4, 5, 0, 0, GAP, 0, GAP, GAP, GAP, 1, GAP, 0],
-        [PATTERN; 12],
+        [PATTERN; ROW_WORDS],
     ];
-    assert_eq!(rows, expected.as_flattened());
+    assert_eq!(rows[..], expected.concat());
     assert_eq!(table, [1, 0, PATTERN, PATTERN]);
     for entries in table_lengths(1) {
         expect_sound(&board, 1, entries);

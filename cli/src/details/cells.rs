@@ -1,8 +1,10 @@
+// SPDX-License-Identifier: BSD-2-Clause OR GPL-2.0-or-later
 //! The cell counts of the cpus node: 36 and 37.
 
 use super::value::one_cell;
 use super::Told;
-use crate::kind::Kind;
+use crate::kind::Wording;
+use sunderwath::Kind;
 
 /// The counts that a kind of board allows. ARM boards are named by their width, RISC-V has none.
 fn allowed(kind: Kind) -> String {

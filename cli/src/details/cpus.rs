@@ -1,9 +1,11 @@
+// SPDX-License-Identifier: BSD-2-Clause OR GPL-2.0-or-later
 //! The cpu nodes: 10 to 13, 15, 17 and 26.
 
 use super::value::{counted, number, one_cell, shown};
 use super::Told;
-use crate::kind::Kind;
+use crate::kind::Wording;
 use crate::tables::Tables;
+use sunderwath::Kind;
 
 pub fn count(tables: &Tables) -> String {
     counted(tables.cpus().count(), "cpu node")

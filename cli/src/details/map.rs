@@ -1,3 +1,4 @@
+// SPDX-License-Identifier: BSD-2-Clause OR GPL-2.0-or-later
 //! The map and its leaves: 16, 24 and 25.
 
 use super::value::{number, one_cell};

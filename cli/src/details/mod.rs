@@ -1,3 +1,4 @@
+// SPDX-License-Identifier: BSD-2-Clause OR GPL-2.0-or-later
 //! What stands at the place of a refusal and what would be right, in words. Which record and which property that is says the
 //! library's answer; only what the answer does not name is looked up.
 
@@ -10,9 +11,8 @@ mod near;
 mod siblings;
 mod value;
 
-use crate::board::Refusal;
-use crate::kind::Kind;
 use crate::tables::Tables;
+use sunderwath::{Kind, Place, Refusal, Rule};
 use value::counted;
 
 /// A refusal, and the board that it was told of.
@@ -25,49 +25,52 @@ pub struct Told<'a> {
 impl Told<'_> {
     /// The node at the place, or that of the property there.
     pub fn node(&self) -> u32 {
-        let Refusal { number, place, .. } = self.refusal;
-        match number {
-            7 | 8 => self.tables.property_node(place),
+        let Refusal { rule, place, .. } = self.refusal;
+        match rule.place() {
+            Place::Property => self.tables.property_node(place),
             _ => place,
         }
     }
 
     /// The name of the property that the number speaks of, missing or not.
     pub fn property_name(&self) -> Option<String> {
-        let record = match self.refusal.number {
-            7 | 8 => Some(self.refusal.place),
+        let record = match self.refusal.rule.place() {
+            Place::Property => Some(self.refusal.place),
             _ => self.refusal.property,
         };
         match record {
             Some(property) => Some(self.tables.property_name(property)),
-            None => subject(self.refusal.number).map(String::from),
+            None => subject(self.refusal.rule).map(String::from),
         }
     }
 }
 
-/// The property that a number with a second place speaks of.
-fn subject(number: u32) -> Option<&'static str> {
-    match number {
-        11 => Some("device_type"),
-        12 => Some("reg"),
-        17 => Some("phandle"),
-        24 => Some("cpu"),
-        36 => Some("#address-cells"),
-        37 => Some("#size-cells"),
+/// The property that a rule with a second place speaks of.
+fn subject(rule: Rule) -> Option<&'static str> {
+    match rule {
+        Rule::CpuDeviceType => Some("device_type"),
+        Rule::CpuReg => Some("reg"),
+        Rule::CpuPhandle => Some("phandle"),
+        Rule::CpuMapPhandle => Some("cpu"),
+        Rule::CpusAddressCells => Some("#address-cells"),
+        Rule::CpusSizeCells => Some("#size-cells"),
         _ => None,
     }
 }
 
-/// For a number with a second place: the property is missing, or what is wrong with it.
+/// For a rule with a second place: the property is missing, or what is wrong with it.
 fn of_property(told: &Told, name: &str) -> String {
-    match (told.refusal.number, told.refusal.property) {
-        (_, None) => missing::missing(told, name),
-        (11, Some(property)) => cpus::device_type(told, property),
-        (12, Some(property)) => cpus::reg(told, property),
-        (17, Some(property)) => cpus::phandle(told, property),
-        (24, Some(property)) => map::cpu(told, property),
-        (36, Some(property)) => cells::address_cells(told, property),
-        (_, Some(property)) => cells::size_cells(told, property),
+    let property = match told.refusal.property {
+        Some(property) => property,
+        None => return missing::missing(told, name),
+    };
+    match told.refusal.rule {
+        Rule::CpuDeviceType => cpus::device_type(told, property),
+        Rule::CpuReg => cpus::reg(told, property),
+        Rule::CpuPhandle => cpus::phandle(told, property),
+        Rule::CpuMapPhandle => map::cpu(told, property),
+        Rule::CpusAddressCells => cells::address_cells(told, property),
+        _ => cells::size_cells(told, property),
     }
 }
 
@@ -79,23 +82,23 @@ fn name_length(name: &[u8]) -> String {
 /// What stands there, where that helps.
 pub fn details(told: &Told) -> Option<String> {
     let tables = told.tables;
-    if let Some(name) = subject(told.refusal.number) {
+    if let Some(name) = subject(told.refusal.rule) {
         return Some(of_property(told, name));
     }
-    match told.refusal.number {
-        2 => Some(format!("{} nodes", tables.node_count())),
-        3 => Some(format!("{} properties", tables.property_count())),
-        4 => Some(format!("{} bytes", tables.pool.len())),
-        5 => Some(name_length(tables.name_bytes(told.refusal.place))),
-        7 => Some(name_length(tables.property_name_bytes(told.refusal.place))),
-        9 => Some(format!("its name is {}", tables.name(0))),
-        10 | 15 => Some(cpus::count(tables)),
-        13 => cpus::same_reg(told),
-        16 => map::first_map(told),
-        21 => Some(siblings::number(tables, told.refusal.place)),
-        25 => map::same_cpu(told),
-        26 => cpus::own_phandle(told),
-        38 => hash::bits(told),
+    match told.refusal.rule {
+        Rule::NodeTableSize => Some(format!("{} nodes", tables.node_count())),
+        Rule::PropertyTableSize => Some(format!("{} properties", tables.property_count())),
+        Rule::PoolSize => Some(format!("{} bytes", tables.pool.len())),
+        Rule::NodeNameRange => Some(name_length(tables.name_bytes(told.refusal.place))),
+        Rule::PropertyRange => Some(name_length(tables.property_name_bytes(told.refusal.place))),
+        Rule::CpusNode => Some(format!("its name is {}", tables.name(0))),
+        Rule::CpuCount | Rule::CpuMapMissing => Some(cpus::count(tables)),
+        Rule::DuplicateCpuReg => cpus::same_reg(told),
+        Rule::CpuMapDuplicate => map::first_map(told),
+        Rule::CpuMapOrder => Some(siblings::number(tables, told.refusal.place)),
+        Rule::CpuMapCpuRepeated => map::same_cpu(told),
+        Rule::CpuUnmapped => cpus::own_phandle(told),
+        Rule::SlotTableBits => hash::bits(told),
         _ => None,
     }
 }
@@ -109,7 +112,7 @@ mod tests {
             tables,
             kind: Kind::Arm64,
             refusal: Refusal {
-                number,
+                rule: Rule::from_number(number).unwrap(),
                 place,
                 property,
             },

@@ -1,3 +1,4 @@
+// SPDX-License-Identifier: BSD-2-Clause OR GPL-2.0-or-later
 //! Names that may have been meant as another one.
 
 /// How many letters have to be put in, taken out or changed.
@@ -17,7 +18,7 @@ fn distance(from: &[u8], to: &[u8]) -> usize {
 
 /// Whether there is no letter next to a part of a name.
 fn ends_word(letter: Option<char>) -> bool {
-    letter.is_some_and(|letter| !letter.is_alphabetic())
+    letter.map_or(false, |letter| !letter.is_alphabetic())
 }
 
 /// Whether a name begins or ends with the wanted one, or differs in few letters.

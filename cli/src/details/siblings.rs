@@ -1,3 +1,4 @@
+// SPDX-License-Identifier: BSD-2-Clause OR GPL-2.0-or-later
 //! Numbers among siblings: 21.
 
 use crate::tables::Tables;

@@ -1,3 +1,4 @@
+// SPDX-License-Identifier: BSD-2-Clause OR GPL-2.0-or-later
 //! Blobs of at most 65,536 bytes: padding, NOPs, and every reason of 31, 32 and 34.
 
 use crate::builder::{patched, small, Builder, NOP};

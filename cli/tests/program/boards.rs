@@ -1,3 +1,4 @@
+// SPDX-License-Identifier: BSD-2-Clause OR GPL-2.0-or-later
 //! The sample boards: accepted or refused, and with which words.
 
 use crate::riscv;
@@ -167,7 +168,7 @@ pub fn names() -> Vec<String> {
     let mut found: Vec<String> = fs::read_dir(boards())
         .expect("the folder is there")
         .map(|entry| entry.expect("it can be read").path())
-        .filter(|path| path.extension().is_some_and(|e| e == "dts"))
+        .filter(|path| path.extension() == Some("dts".as_ref()))
         .map(|path| path.file_stem().unwrap().to_str().unwrap().to_string())
         .collect();
     found.sort();

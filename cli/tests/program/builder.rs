@@ -1,3 +1,4 @@
+// SPDX-License-Identifier: BSD-2-Clause OR GPL-2.0-or-later
 //! Builds blobs token by token, right or wrong.
 
 pub const BEGIN: u32 = 1;
@@ -35,7 +36,7 @@ impl Builder {
     /// Bytes, and padding to the next word.
     pub fn bytes(mut self, bytes: &[u8]) -> Self {
         self.structure.extend_from_slice(bytes);
-        let length = self.structure.len().next_multiple_of(4);
+        let length = (self.structure.len() + 3) & !3;
         self.structure.resize(length, 0);
         self
     }

@@ -1,13 +1,14 @@
+// SPDX-License-Identifier: BSD-2-Clause OR GPL-2.0-or-later
 //! Damaged blobs: the program always ends well, the reasons that it gives fit what the library tells, and cutting a blob
 //! changes nothing about it.
 
 use crate::builder::{patched, small, Builder, NOP};
 use crate::run::{compiled, run_on_input};
-use sunderwath::fault::Fault;
-use sunderwath::flat::{self, Reading};
-use sunderwath::stream::Survey;
-use sunderwath::tables::Tables;
-use sunderwath::{cut, header, stream};
+use sunderwath_cli::fault::Fault;
+use sunderwath_cli::flat::{self, Reading};
+use sunderwath_cli::stream::Survey;
+use sunderwath_cli::tables::Tables;
+use sunderwath_cli::{cut, header, stream};
 
 /// Damaged blobs are accepted or refused, never anything else.
 #[test]
@@ -59,14 +60,14 @@ fn compare(blob: &[u8]) -> u32 {
             0
         }
         (Err(fault), Ok(survey), Err(cut)) => {
-            assert_eq!((fault.number, &fault), (34, &cut));
+            assert_eq!((fault.rule.number(), &fault), (34, &cut));
             assert_eq!(fault.reason, format!("it has {}", survey.cpus));
             34
         }
         (Err(fault), Err(walked), Err(cut)) => {
             assert!(!fault.reason.is_empty());
             assert_eq!((&fault, &fault), (&walked, &cut));
-            fault.number
+            fault.rule.number()
         }
         (read, walked, cut) => panic!("{read:?}, {walked:?}, {cut:?}"),
     }

@@ -1,3 +1,4 @@
+// SPDX-License-Identifier: BSD-2-Clause OR GPL-2.0-or-later
 //! What is printed: tables, other formats, and details of messages.
 
 use crate::run::{board, compiled, run, run_on_input, text};
@@ -51,8 +52,12 @@ cpu-map
 hash: mask 0x3, shifts 0 6 14 30, bits 2
 ";
     assert_eq!(text(&tree.stdout), expected);
-    let json = run(&["--json", &board("whole-case")]);
+    assert!(include_str!("../../../docs/sunderwath.1").contains(expected));
+    let file = board("whole-case");
+    let json = run(&["--json", &file]);
     let expected = r#"{
+  "schema": 1,
+  "file": "FILE",
   "width": 64,
   "board": "arm64",
   "count": 2,
@@ -65,7 +70,7 @@ hash: mask 0x3, shifts 0 6 14 30, bits 2
   ]
 }
 "#;
-    assert_eq!(text(&json.stdout), expected);
+    assert_eq!(text(&json.stdout), expected.replace("FILE", &file));
 }
 
 /// The sentence of 21, before the details.

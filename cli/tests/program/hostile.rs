@@ -1,10 +1,11 @@
+// SPDX-License-Identifier: BSD-2-Clause OR GPL-2.0-or-later
 //! Files made to be expensive: they are read or refused quickly, and what is kept of them stays below the limit.
 
 use crate::builder::{Builder, BEGIN, CLOSE, END, PROP};
 use crate::run::{refusal, run_on_input, text};
 use std::time::{Duration, Instant};
-use sunderwath::header::MAX_BLOB;
-use sunderwath::{cut, flat};
+use sunderwath::MAX_BLOB;
+use sunderwath_cli::{cut, flat};
 
 /// A cpus node with properties whose names begin one byte behind each other in one long string.
 fn overlapping(properties: u32, string: usize, padding: usize) -> Vec<u8> {
@@ -71,7 +72,7 @@ fn limit_of_what_is_kept() {
     assert_eq!(most.len(), MAX_BLOB);
     assert_eq!(flat::read(board(rest)).unwrap().tables.pool, most);
     let fault = flat::read(board(rest + 1)).expect_err("it does not fit");
-    assert_eq!(fault.number, 31);
+    assert_eq!(fault.rule.number(), 31);
     let end = "limit 65536; 65537 or more with only /cpus";
     assert!(fault.reason.ends_with(end), "{}", fault.reason);
 }
@@ -90,7 +91,7 @@ fn most_records() {
     let start = "-: ERROR 2 (node_table_size): /cpus: ";
     assert!(message.starts_with(start), "{message}");
     let reading = flat::read(overlapping(5400, 1, 0));
-    assert_eq!(reading.expect_err("names run out").number, 33);
+    assert_eq!(reading.expect_err("names run out").rule.number(), 33);
     let properties = [PROP, 0, 0].repeat(5400);
     let board = Builder::rooted().cell("x", 0).begin("cpus");
     let message = refusal(&board.words(&properties).close().finish());

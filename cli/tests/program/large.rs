@@ -1,11 +1,12 @@
+// SPDX-License-Identifier: BSD-2-Clause OR GPL-2.0-or-later
 //! Blobs over 65,536 bytes, of which only /cpus is read.
 
 use crate::builder::{patched, small, Builder, CLOSE, END, NOP};
 use crate::run::{compiled, decompiled, refusal, run, run_on_input, text};
 use std::fs;
 use std::path::Path;
-use sunderwath::cut;
-use sunderwath::header::MAX_BLOB;
+use sunderwath::MAX_BLOB;
+use sunderwath_cli::cut;
 
 const MUCH: usize = 100_000;
 

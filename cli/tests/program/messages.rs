@@ -1,8 +1,9 @@
+// SPDX-License-Identifier: BSD-2-Clause OR GPL-2.0-or-later
 //! Messages that name the property and what it holds, for every number that speaks of the contents of a board.
 
 use crate::builder::Builder;
 use crate::run::{refusal, run_on_input, text};
-use sunderwath::messages::check_and_sentence;
+use sunderwath::texts as check_and_sentence;
 
 /// Closes the cpus node; the board is refused with this number at this node and with these details.
 fn told(board: Builder, number: u32, node: &str, details: &str) {

@@ -1,3 +1,4 @@
+// SPDX-License-Identifier: BSD-2-Clause OR GPL-2.0-or-later
 //! Names with characters that have to be escaped: once, and in the way of each format.
 
 use crate::builder::Builder;

@@ -1,10 +1,12 @@
+// SPDX-License-Identifier: BSD-2-Clause OR GPL-2.0-or-later
 //! The note on a board whose cpu nodes say that it is of another kind, where no option says which: it names the option and changes
 //! nothing else.
 
 use crate::boards::names;
 use crate::builder::Builder;
 use crate::run::{board, run, run_on_input, text};
-use sunderwath::kind::Kind;
+use sunderwath::Kind;
+use sunderwath_cli::kind::Wording;
 
 /// The boards with such nodes: the first one, the string that tells the kind, and the kind.
 const NOTED: [(&str, &str, &str, &str); 10] = [

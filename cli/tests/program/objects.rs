@@ -1,3 +1,4 @@
+// SPDX-License-Identifier: BSD-2-Clause OR GPL-2.0-or-later
 //! The object that `--json` prints for a refusal.
 
 use crate::builder::{patched, small, Builder};
@@ -12,12 +13,13 @@ fn told(blob: &[u8]) -> (String, String) {
     (object, line)
 }
 
-/// An object of these fields, whose last five are JSON already.
-fn object(file: &str, fields: [&str; 5]) -> String {
-    let [number, check, node, property, message] = fields;
+/// An object of these fields, which are JSON already but for the file.
+fn object(file: &str, fields: [&str; 6]) -> String {
+    let [number, check, place, node, property, message] = fields;
     format!(
-        "{{\n  \"file\": \"{file}\",\n  \"number\": {number},\n  \"check\": {check},\n  \
-         \"node\": {node},\n  \"property\": {property},\n  \"message\": {message}\n}}\n"
+        "{{\n  \"schema\": 1,\n  \"file\": \"{file}\",\n  \"number\": {number},\n  \
+         \"check\": {check},\n  \"place\": {place},\n  \"node\": {node},\n  \
+         \"property\": {property},\n  \"message\": {message}\n}}\n"
     )
 }
 
@@ -28,6 +30,7 @@ fn boards() {
     let fields = [
         "24",
         "\"cpu_map_phandle\"",
+        "4",
         "\"/cpus/cpu-map/cluster0/core1\"",
         "\"cpu\"",
         "\"cpu must be the phandle of a cpu node (no property cpu (it has cpu0))\"",
@@ -72,7 +75,8 @@ fn properties() {
         .cell("reg", 0)
         .cell("reg", 1);
     let (object, _) = told(&board.close().finish());
-    assert!(object.contains("\"node\": \"/cpus\",\n  \"property\": \"reg\",\n"));
+    let second = "\"place\": 1,\n  \"node\": \"/cpus\",\n  \"property\": \"reg\",\n";
+    assert!(object.contains(second), "{object}");
 }
 
 /// A blob has no node but the root for 34, and no property.
@@ -82,6 +86,7 @@ fn blobs() {
     let fields = [
         "31",
         "\"blob_header\"",
+        "0",
         "null",
         "null",
         "\"not a devicetree blob that can be read (magic 0x00000001, not 0xd00dfeed)\"",
@@ -91,6 +96,7 @@ fn blobs() {
     let fields = [
         "34",
         "\"blob_cpus\"",
+        "0",
         "\"/\"",
         "null",
         "\"the root must have exactly one child named cpus (it has 0)\"",
@@ -109,7 +115,8 @@ fn structures() {
             "\"at offset {place:#x}: the token stream breaks the specification's structure \
              (unknown token 0x00000005)\""
         );
-        let fields = ["33", "\"blob_structure\"", "null", "null", &message];
+        let place = place.to_string();
+        let fields = ["33", "\"blob_structure\"", &place, "null", "null", &message];
         assert_eq!(told(&blob).0, object("-", fields));
     }
 }

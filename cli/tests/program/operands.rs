@@ -1,54 +1,34 @@
-//! Operands and options whatever bytes they have, devices, and a standard error that nobody reads.
+// SPDX-License-Identifier: BSD-2-Clause OR GPL-2.0-or-later
+//! Operands and options whatever bytes they have, and devices.
 
 use crate::builder::small;
-use crate::run::{board, compiled, run_on_input, text};
-use std::ffi::OsStr;
-use std::fs::{self, File};
-use std::os::unix::ffi::OsStrExt;
-use std::path::{Path, PathBuf};
-use std::process::{Command, Output};
-
-fn program() -> Command {
-    Command::new(env!("CARGO_BIN_EXE_sunderwath"))
-}
-
-/// Writes a file of this name in a directory of its own.
-fn written(name: &[u8], bytes: &[u8]) -> PathBuf {
-    let directory = Path::new(env!("CARGO_TARGET_TMPDIR")).join("operands");
-    fs::create_dir_all(&directory).expect("the directory is made");
-    let file = directory.join(OsStr::from_bytes(name));
-    fs::write(&file, bytes).expect("the file is written");
-    file
-}
-
-fn run_in_place(arguments: &[&str], file: &Path) -> Output {
-    program()
-        .args(arguments)
-        .arg(file.file_name().expect("it has a name"))
-        .current_dir(file.parent().expect("it has a directory"))
-        .output()
-        .expect("the program starts")
-}
+use crate::run::{board, compiled, directory, program, run_in, run_on_input, text, written};
+use std::fs;
 
 #[test]
 fn names_that_are_not_utf8() {
-    let blob = run_in_place(&[], &written(b"\xff.dtb", &small()));
-    assert_eq!(blob.status.code(), Some(0));
+    let place = directory("operands-names");
     let source = fs::read(board("whole-case")).expect("the board is there");
-    let source = run_in_place(&[], &written(b"\xff.dts", &source));
-    assert_eq!(source.status.code(), Some(0));
-    let missing = program().arg(OsStr::from_bytes(b"no\xe9")).output();
-    let missing = missing.expect("the program starts");
+    written(&place, b"\xff.dtb", &small());
+    written(&place, b"\xff.dts", &source);
+    for name in [b"\xff.dtb", b"\xff.dts"] {
+        assert_eq!(run_in(&place, &[name]).status.code(), Some(0));
+    }
+    let missing = run_in(&place, &[b"no\xe9"]);
     assert_eq!(missing.status.code(), Some(2));
     let start = "Couldn't open blob from 'no\u{e9}': ";
     assert!(text(&missing.stderr).starts_with(start));
+    let both = run_in(&place, &[b"\xff.dtb", b"\xff.dts"]);
+    assert!(text(&both.stdout).starts_with("\u{ff}.dtb:\nLEAF "));
 }
 
 /// The line stays one line; the object has the name's own characters.
 #[test]
 fn names_with_characters_to_escape() {
-    let file = written(b"\xe9\n\x1b.dtb", &compiled("refused-24-cpu0"));
-    let output = run_in_place(&["--json"], &file);
+    let place = directory("operands-escapes");
+    let name = b"\xe9\n\x1b.dtb";
+    written(&place, name, &compiled("refused-24-cpu0"));
+    let output = run_in(&place, &[b"--json", name]);
     let line = text(&output.stderr);
     assert!(
         line.starts_with("\u{e9}\\n\\u{1b}.dtb: ERROR 24 "),
@@ -56,26 +36,27 @@ fn names_with_characters_to_escape() {
     );
     let field = "\n  \"file\": \"\u{e9}\\u000a\\u001b.dtb\",\n";
     assert!(text(&output.stdout).contains(field));
-    let missing = program().arg("no\nfile").output();
-    let missing = missing.expect("the program starts");
+    let missing = run_in(&place, &[b"no\nfile"]);
     let start = "Couldn't open blob from 'no\\nfile': ";
     assert!(text(&missing.stderr).starts_with(start));
 }
 
 #[test]
 fn options_that_are_not_utf8() {
-    let wrong: [&[&[u8]]; 3] = [
+    let place = directory("operands-options");
+    let wrong: [&[&[u8]]; 5] = [
         &[b"--\xff", b"a"],
         &[b"-w", b"\xff", b"a"],
+        &[b"-w\xff", b"a"],
+        &[b"-q\xff\xfe", b"a"],
         &[b"-\x1b", b"a"],
     ];
     for arguments in wrong {
-        let arguments = arguments.iter().map(|bytes| OsStr::from_bytes(bytes));
-        let output = program().args(arguments).output();
-        let output = output.expect("the program starts");
+        let output = run_in(&place, arguments);
         assert_eq!(output.status.code(), Some(2));
         let message = text(&output.stderr);
         assert!(message.starts_with("sunderwath: ") && !message.contains('\x1b'));
+        assert_eq!(message.lines().count(), 2);
     }
 }
 
@@ -91,18 +72,4 @@ fn devices() {
     let output = run_on_input(&["-"], &padded);
     assert_eq!(output.status.code(), Some(0));
     assert!(output.stderr.is_empty());
-}
-
-/// The status says what the lines would have said.
-#[test]
-fn standard_error_that_cannot_be_written() {
-    let status = |argument: &str| {
-        let full = File::options().write(true).open("/dev/full");
-        let mut program = program();
-        program.arg(argument).stderr(full.expect("Linux has it"));
-        program.status().expect("the program starts").code()
-    };
-    assert_eq!(status(&board("refused-24-cpu0")), Some(1));
-    assert_eq!(status("no-such-file.dtb"), Some(2));
-    assert_eq!(status("--nonsense"), Some(2));
 }

@@ -1,15 +1,16 @@
+// SPDX-License-Identifier: BSD-2-Clause OR GPL-2.0-or-later
 //! Damaged boards: whatever the library refuses is told in one line, and the property is the one at the second place. With a
 //! table of slots it refuses the same boards in the same way, and others with 38 alone.
 
 use crate::builder::{patched, small};
 use crate::run::compiled;
-use sunderwath::board::{self, Refusal};
-use sunderwath::details::Told;
-use sunderwath::flat;
-use sunderwath::kind::Kind;
-use sunderwath::report::Report;
-use sunderwath::slots;
-use sunderwath::tables::Tables;
+use sunderwath::Kind;
+use sunderwath::Refusal;
+use sunderwath_cli::board;
+use sunderwath_cli::details::Told;
+use sunderwath_cli::flat;
+use sunderwath_cli::report::Report;
+use sunderwath_cli::tables::Tables;
 
 /// The numbers that have a second place.
 const SIX: [u32; 6] = [11, 12, 17, 24, 36, 37];
@@ -42,7 +43,7 @@ fn check(tables: &Tables, kind: Kind, refusal: Refusal) {
         kind,
         refusal,
     });
-    let number = refusal.number;
+    let number = refusal.number();
     assert_eq!(report.to_string().lines().count(), 1);
     assert!(report.node.is_some());
     if SIX.contains(&number) {
@@ -76,19 +77,23 @@ const WORDS: [u32; 14] = [
 
 /// Reads the board as each kind, and counts the numbers told.
 fn read(blob: Vec<u8>, told: &mut [u32; 50]) {
-    let Ok(reading) = flat::read(blob) else {
-        return;
+    let reading = match flat::read(blob) {
+        Ok(reading) => reading,
+        Err(_) => return,
     };
     for kind in Kind::ALL {
         let plain = board::read(kind, &reading.tables).err();
-        let Err(refusal) = slots::read(kind, &reading.tables) else {
-            assert_eq!(plain, None);
-            continue;
+        let refusal = match board::read_slots(kind, &reading.tables) {
+            Err(refusal) => refusal,
+            Ok(_) => {
+                assert_eq!(plain, None);
+                continue;
+            }
         };
         check(&reading.tables, kind, refusal);
-        told[refusal.number as usize] += 1;
-        assert_eq!(plain, (refusal.number != 38).then_some(refusal));
-        assert!(refusal.number != 38 || kind != Kind::Riscv);
+        told[refusal.number() as usize] += 1;
+        assert_eq!(plain, (refusal.number() != 38).then_some(refusal));
+        assert!(refusal.number() != 38 || kind != Kind::Riscv);
     }
 }
 

@@ -1,8 +1,9 @@
+// SPDX-License-Identifier: BSD-2-Clause OR GPL-2.0-or-later
 //! RISC-V boards: hart ids in place of MPIDRs, no hash and no slots, in every format, and what refuses such a board.
 
 use crate::builder::Builder;
 use crate::run::{board, run, run_on_input, text};
-use sunderwath::messages::check_and_sentence;
+use sunderwath::texts as check_and_sentence;
 
 /// Accepted boards, with the rows that `--parse` prints.
 pub const ACCEPTED: [(&str, &str); 4] = [
@@ -163,7 +164,9 @@ fn member(core: u32, cpu: &str, hart: u32) -> String {
 fn object() {
     let rows = [(0, "cpu@1000", 4096), (1, "cpu@40", 64), (2, "cpu@1", 1)];
     let rows = rows.map(|(core, cpu, hart)| member(core, cpu, hart));
-    let members = "  \"width\": 5,\n  \"board\": \"riscv\",\n  \"count\": 3,";
+    let file = board("sparse-harts");
+    let members = format!("  \"schema\": 1,\n  \"file\": \"{file}\",\n  \"width\": 5,");
+    let members = members + "\n  \"board\": \"riscv\",\n  \"count\": 3,";
     let rows = rows.join(",\n");
     let expected = format!("{{\n{members}\n  \"rows\": [\n{rows}\n  ]\n}}\n");
     assert_eq!(printed(&["-j", "-b", "riscv"], "sparse-harts"), expected);

@@ -1,6 +1,10 @@
+// SPDX-License-Identifier: BSD-2-Clause OR GPL-2.0-or-later
 //! Starts the program and dtc.
 
+use std::ffi::OsStr;
+use std::fs;
 use std::io::Write;
+use std::os::unix::ffi::OsStrExt;
 use std::path::{Path, PathBuf};
 use std::process::{Command, Output, Stdio};
 
@@ -14,8 +18,36 @@ pub fn board(name: &str) -> String {
     file.to_str().expect("the path is text").to_string()
 }
 
-pub fn run(arguments: &[&str]) -> Output {
+pub fn program() -> Command {
     Command::new(env!("CARGO_BIN_EXE_sunderwath"))
+}
+
+/// An empty directory of this name, for the files of one test.
+pub fn directory(name: &str) -> PathBuf {
+    let directory = Path::new(env!("CARGO_TARGET_TMPDIR")).join(name);
+    let _ = fs::remove_dir_all(&directory);
+    fs::create_dir_all(&directory).expect("the directory is made");
+    directory
+}
+
+/// Writes a file of this name in a directory.
+pub fn written(directory: &Path, name: &[u8], bytes: &[u8]) -> PathBuf {
+    let file = directory.join(OsStr::from_bytes(name));
+    fs::write(&file, bytes).expect("the file is written");
+    file
+}
+
+/// Runs the program in a directory, on operands of any bytes.
+pub fn run_in(directory: &Path, arguments: &[&[u8]]) -> Output {
+    program()
+        .args(arguments.iter().map(|bytes| OsStr::from_bytes(bytes)))
+        .current_dir(directory)
+        .output()
+        .expect("the program starts")
+}
+
+pub fn run(arguments: &[&str]) -> Output {
+    program()
         .args(arguments)
         .output()
         .expect("the program starts")
@@ -35,7 +67,7 @@ pub fn compiled(name: &str) -> Vec<u8> {
     output.stdout
 }
 
-fn with_input(command: &mut Command, input: &[u8]) -> Output {
+pub fn with_input(command: &mut Command, input: &[u8]) -> Output {
     let mut child = command
         .stdin(Stdio::piped())
         .stdout(Stdio::piped())
@@ -49,8 +81,7 @@ fn with_input(command: &mut Command, input: &[u8]) -> Output {
 }
 
 pub fn run_on_input(arguments: &[&str], input: &[u8]) -> Output {
-    let mut program = Command::new(env!("CARGO_BIN_EXE_sunderwath"));
-    with_input(program.args(arguments), input)
+    with_input(program().args(arguments), input)
 }
 
 /// What dtc makes of a blob.

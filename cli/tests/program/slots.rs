@@ -1,3 +1,4 @@
+// SPDX-License-Identifier: BSD-2-Clause OR GPL-2.0-or-later
 //! What `--slots` prints: each slot with the leaf that has it, and no table for a hash of more than 12 bits.
 
 use crate::boards::{ACCEPTED, REFUSED};

@@ -1,8 +1,9 @@
+// SPDX-License-Identifier: BSD-2-Clause OR GPL-2.0-or-later
 //! Every reason of 33, with its place. The same streams are refused at the same place in a short blob and in a long one.
 
 use crate::builder::{Builder, BEGIN, CLOSE, END, NOP, PROP};
 use crate::run::refusal;
-use sunderwath::flat;
+use sunderwath_cli::flat;
 
 /// Streams that break, as what comes behind a whole or a begun board, with the offset of the breaking token from there.
 type Case = (fn(Builder) -> Builder, usize, &'static str);
@@ -88,7 +89,11 @@ fn check(before: &Builder, cases: &[Case]) {
     for (break_it, from, reason) in cases {
         let place = before.offset() + from;
         let fault = flat::read(break_it(before.clone()).blob()).expect_err(reason);
-        let told = (fault.number, fault.place as usize, fault.reason.as_str());
+        let told = (
+            fault.rule.number(),
+            fault.place as usize,
+            fault.reason.as_str(),
+        );
         assert_eq!(told, (33, place, *reason));
     }
 }
@@ -131,7 +136,7 @@ fn names_without_a_zero_byte() {
         board.strings.extend(b"\0abc");
         let blob = board.words(&[PROP, 0, name, CLOSE, END]).blob();
         let fault = flat::read(blob).expect_err("the name has no end");
-        assert_eq!((fault.number, fault.place as usize), (33, place));
+        assert_eq!((fault.rule.number(), fault.place as usize), (33, place));
         assert!(fault.reason.ends_with(reason), "{}", fault.reason);
     }
 }

@@ -1,29 +1,74 @@
+// SPDX-License-Identifier: BSD-2-Clause OR GPL-2.0-or-later
 //! Wrong usage, files that cannot be read, help and version.
 
-use crate::run::{run, text};
+use crate::run::{board, run, text};
+
+/// Two lines, and nothing is read.
+#[test]
+fn wrong_usage() {
+    let file = board("whole-case");
+    let wrong: [(&[&str], &str); 9] = [
+        (&[], "no file"),
+        (&["--slots"], "no file"),
+        (
+            &["--width", "6", &file],
+            "the width must be 32, 64 or 5, not '6'",
+        ),
+        (&["-w6", &file], "the width must be 32, 64 or 5, not '6'"),
+        (
+            &["--board", "x\ny", &file],
+            "the board must be arm32, arm64 or riscv, not 'x\\ny'",
+        ),
+        (&["--nonsense", &file], "unknown option '--nonsense'"),
+        (&["-jqX", &file], "unknown option '-X'"),
+        (&[&file, "--json=1"], "option '--json' takes no value"),
+        (&[&file, "-w"], "option '-w' needs a value"),
+    ];
+    for (arguments, message) in wrong {
+        let output = run(arguments);
+        let hint = "Try 'sunderwath --help' for more information.";
+        let expected = format!("sunderwath: {message}\n{hint}\n");
+        assert_eq!(text(&output.stderr), expected, "{arguments:?}");
+        assert_eq!((text(&output.stdout), output.status.code()), ("", Some(2)));
+    }
+}
 
 #[test]
-fn usage_and_files() {
-    let wrong: [&[&str]; 9] = [
-        &[],
-        &["--slots"],
-        &["a.dtb", "b.dtb"],
-        &["--width", "6", "a.dtb"],
-        &["--board", "5", "a.dtb"],
-        &["--board", "x86", "a.dtb"],
-        &["--nonsense", "a.dtb"],
-        &["no-such-file.dtb"],
-        &["no-such-file.dts"],
-    ];
-    for arguments in wrong {
-        let output = run(arguments);
-        assert_eq!(output.status.code(), Some(2), "{arguments:?}");
-        assert!(output.stdout.is_empty() && !output.stderr.is_empty());
+fn bundles() {
+    let file = board("example2");
+    let expected = run(&["-q", "-j", "--board", "arm32", &file]);
+    assert_eq!(expected.status.code(), Some(0));
+    for arguments in [
+        &["-qjw32", &file][..],
+        &["-qjw", "32", &file],
+        &["-jqbarm32", &file],
+        &["-qj", "--width=32", &file],
+        &[&file, "-jqb", "arm32"],
+        &["-qjw32", "--", &file],
+    ] {
+        assert_eq!(run(arguments), expected, "{arguments:?}");
     }
+}
+
+#[test]
+fn missing_files() {
+    for name in ["no-such-file.dtb", "no-such-file.dts"] {
+        let output = run(&[name]);
+        let expected =
+            format!("Couldn't open blob from '{name}': No such file or directory (os error 2)\n");
+        assert_eq!(text(&output.stderr), expected);
+        assert_eq!((text(&output.stdout), output.status.code()), ("", Some(2)));
+    }
+}
+
+#[test]
+fn help_and_version() {
     let help = run(&["--help"]);
     assert_eq!(help.status.code(), Some(0));
-    assert!(text(&help.stdout).starts_with("Usage: sunderwath"));
+    assert!(text(&help.stdout).starts_with("Usage: sunderwath [OPTION]... FILE...\n"));
+    assert_eq!(run(&["-qh"]), help);
     let version = run(&["--version"]);
     let expected = format!("Version: sunderwath {}\n", env!("CARGO_PKG_VERSION"));
     assert_eq!(text(&version.stdout), expected);
+    assert_eq!(run(&["-V", "no-such-file.dtb"]), version);
 }

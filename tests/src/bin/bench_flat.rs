@@ -1,12 +1,11 @@
 //! Time of a blob: into tables, and on into rows. The library, the fast version
 //! and, with the feature `fdt`, a reader over libfdt.
 
-use std::hint::black_box;
 use sunderwath_tests::answer::ANSWER_WORDS;
 use sunderwath_tests::build::overlap::overlapping_names;
 use sunderwath_tests::build::shapes::regular_board;
 use sunderwath_tests::build::{blob, cell, Node, FULL_ROOM};
-use sunderwath_tests::timing::best_in_turns;
+use sunderwath_tests::timing::{best_in_turns, black_box};
 use sunderwath_tests::{fast, ffi};
 
 const ROUNDS: usize = 25;

@@ -1,9 +1,8 @@
 //! Time of a list's hash for each MPIDR: the library and the fast version.
 
-use std::hint::black_box;
 use sunderwath_tests::answer::ANSWER_WORDS;
 use sunderwath_tests::rng::Rng;
-use sunderwath_tests::timing::best_ns;
+use sunderwath_tests::timing::{best_ns, black_box};
 use sunderwath_tests::{fast, ffi};
 
 fn main() {

@@ -1,11 +1,10 @@
 //! Time of a lookup among 4,000 properties, and of boards that have as many: the
 //! library and the fast version.
 
-use std::hint::black_box;
 use sunderwath_tests::answer::ANSWER_WORDS;
 use sunderwath_tests::build::shapes::{fill_up, regular_board};
 use sunderwath_tests::build::{Board, Node, FULL_ROOM};
-use sunderwath_tests::timing::best_in_turns;
+use sunderwath_tests::timing::{best_in_turns, black_box};
 use sunderwath_tests::{fast, ffi};
 
 const ROUNDS: usize = 25;

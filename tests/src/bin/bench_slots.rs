@@ -1,7 +1,7 @@
 //! Time of a whole board without and with the table from slots to rows, and of
 //! the question that the table answers: the row of a slot.
 
-use std::hint::black_box;
+use sunderwath::layout::{ROW_SLOT, ROW_WORDS};
 use sunderwath_tests::answer::ANSWER_WORDS;
 use sunderwath_tests::build::shapes::regular_board;
 use sunderwath_tests::build::slots::mpidrs_with_bits;
@@ -9,11 +9,9 @@ use sunderwath_tests::build::worked::cores;
 use sunderwath_tests::build::{Board, FULL_ROOM};
 use sunderwath_tests::ffi;
 use sunderwath_tests::rng::Rng;
-use sunderwath_tests::timing::best_in_turns;
+use sunderwath_tests::timing::{best_in_turns, black_box};
 
 const ROUNDS: usize = 25;
-const ROW_WORDS: usize = 12;
-const SLOT_WORD: usize = 11;
 
 /// Entries that are enough for every accepted board.
 const FULL_TABLE: usize = 4096;
@@ -81,7 +79,7 @@ fn by_table(filled: &Filled, slot: u32) -> Option<u32> {
 
 fn by_search(filled: &Filled, slot: u32) -> Option<u32> {
     let mut rows = filled.rows.chunks_exact(ROW_WORDS);
-    rows.position(|row| row[SLOT_WORD] == slot)
+    rows.position(|row| row[ROW_SLOT] == slot)
         .map(|row| row as u32)
 }
 
@@ -91,7 +89,7 @@ fn questions(filled: &Filled) -> [f64; 2] {
     let slots: Vec<u32> = filled
         .rows
         .chunks_exact(ROW_WORDS)
-        .map(|row| row[SLOT_WORD])
+        .map(|row| row[ROW_SLOT])
         .collect();
     let ask = |find: fn(&Filled, u32) -> Option<u32>| {
         for (row, &slot) in black_box(&slots).iter().enumerate() {

@@ -1,10 +1,9 @@
 //! Time of rules 1 to 8: the library and the fast version.
 
-use std::hint::black_box;
 use sunderwath_tests::answer::ANSWER_WORDS;
 use sunderwath_tests::build::shapes::{fill_up, regular_board};
 use sunderwath_tests::build::{Board, Node};
-use sunderwath_tests::timing::best_ns;
+use sunderwath_tests::timing::{best_ns, black_box};
 use sunderwath_tests::{fast, ffi};
 
 /// 1,024 nodes with four properties each.

@@ -111,10 +111,10 @@ fn run(options: &Options) -> Result<(), String> {
 }
 
 fn main() {
-    let Some(options) = options() else {
+    let options = options().unwrap_or_else(|| {
         eprintln!("usage: long_run [--boards N] [--seed S] | --replay FILE");
-        exit(2);
-    };
+        exit(2)
+    });
     let outcome = match &options.replay {
         Some(file) => replay(file),
         None => run(&options),

@@ -1,6 +1,5 @@
-//! Compares the readers on many blobs, or on one again. With the feature
-//! `loader` the blob call reads each of them too, and one of its own mixture,
-//! mostly boards, beside each.
+//! Compares the readers on many blobs, or on one again. The blob call reads each
+//! of them too, and one of its own mixture, mostly boards, beside each.
 //!
 //! long_run_flat [--blobs N] [--seed S]
 //! long_run_flat --replay FILE
@@ -16,7 +15,6 @@ use sunderwath_tests::rng::Rng;
 use sunderwath_tests::second::{flat_answer, REASONS};
 
 /// The blob call on the blobs of the run, and on a mixture of its own.
-#[cfg(feature = "loader")]
 mod blob_call {
     use sunderwath_tests::answer::{Answer, SHORT_ANSWER};
     use sunderwath_tests::build::damage::some_width;
@@ -64,29 +62,6 @@ mod blob_call {
             let told = compare_blob(blob, lent)?;
             println!("the blob call agrees: {:?}", told.words());
         }
-        Ok(())
-    }
-}
-
-#[cfg(not(feature = "loader"))]
-mod blob_call {
-    pub struct BlobCall;
-
-    impl BlobCall {
-        pub fn new(_: u64) -> BlobCall {
-            BlobCall
-        }
-
-        pub fn compare(&mut self, _: &[u8]) -> Result<(), String> {
-            Ok(())
-        }
-
-        pub fn lines(&self) -> String {
-            String::new()
-        }
-    }
-
-    pub fn replay(_: &str, _: &[u8]) -> Result<(), String> {
         Ok(())
     }
 }
@@ -186,10 +161,10 @@ fn run(options: &Options) -> Result<(), String> {
 }
 
 fn main() {
-    let Some(options) = options() else {
+    let options = options().unwrap_or_else(|| {
         eprintln!("usage: long_run_flat [--blobs N] [--seed S] | --replay FILE");
-        exit(2);
-    };
+        exit(2)
+    });
     let outcome = match &options.replay {
         Some(file) => replay(file),
         None => run(&options),

@@ -7,9 +7,12 @@ use sunderwath_tests::cases;
 
 fn main() {
     let mut arguments = std::env::args().skip(1);
-    let (Some(file), None) = (arguments.next(), arguments.next()) else {
-        eprintln!("usage: make_cases FILE");
-        exit(2);
+    let file = match (arguments.next(), arguments.next()) {
+        (Some(file), None) => file,
+        _ => {
+            eprintln!("usage: make_cases FILE");
+            exit(2);
+        }
     };
     let files = cases::files();
     if let Err(error) = std::fs::write(&file, files.input) {

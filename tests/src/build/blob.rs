@@ -10,6 +10,11 @@ const END: u32 = 9;
 const HEADER_BYTES: usize = 40;
 const RESERVE_BYTES: usize = 16;
 
+/// A length with the bytes up to the next cell.
+pub(super) fn padded(length: usize) -> usize {
+    (length + 3) / 4 * 4
+}
+
 struct Writer {
     structure: Vec<u8>,
     strings: Vec<u8>,
@@ -24,7 +29,7 @@ impl Writer {
     /// Bytes, then zeros up to the next cell.
     fn padded(&mut self, bytes: &[u8]) {
         self.structure.extend(bytes);
-        let length = self.structure.len().next_multiple_of(4);
+        let length = padded(self.structure.len());
         self.structure.resize(length, 0);
     }
 

@@ -4,6 +4,7 @@ use super::property_faults::NEEDED;
 use super::{cell, Board, Node};
 use crate::rng::Rng;
 use crate::width::{UNKNOWN_WIDTHS, WIDTHS};
+use sunderwath::ROW_WORDS;
 
 const NAMES: [&str; 26] = [
     "cpu-map",
@@ -199,10 +200,10 @@ fn copy_value(rng: &mut Rng, root: &mut Node) {
 /// Puts one or more clusters between a cluster and its children.
 fn wrap_children(rng: &mut Rng, root: &mut Node) {
     let record = (1..root.count()).find(|&r| root.at(r).name.starts_with(b"cluster"));
-    let Some(record) = record else {
-        return;
+    let node = match record {
+        Some(record) => root.at(record),
+        None => return,
     };
-    let node = root.at(record);
     for _ in 0..rng.between(1, 4) {
         let inner = Node {
             children: std::mem::take(&mut node.children),
@@ -240,7 +241,7 @@ fn renumber_sibling(rng: &mut Rng, root: &mut Node) {
 }
 
 fn set_number(name: &mut Vec<u8>, number: usize) {
-    while name.last().is_some_and(u8::is_ascii_digit) {
+    while name.last().map_or(false, u8::is_ascii_digit) {
         name.pop();
     }
     name.extend(number.to_string().bytes());
@@ -266,7 +267,7 @@ pub fn spoil_tables(rng: &mut Rng, board: &mut Board) {
         9 if rng.one_in(8) => board.pool.resize(rng.between(65_530, 65_540), 0),
         9 => board.pool.truncate(rng.below(board.pool.len() + 1)),
         10 => swap_records(rng, board),
-        _ => board.room = rng.below(12 * 6),
+        _ => board.room = rng.below(6 * ROW_WORDS),
     }
 }
 

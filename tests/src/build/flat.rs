@@ -1,6 +1,7 @@
 //! What a blob's structure block holds: a list of items, which need not make a
 //! stream. `flat_form` lays it out.
 
+use super::blob::padded;
 use super::Node;
 
 pub const BEGIN_NODE: u32 = 1;
@@ -43,8 +44,8 @@ impl Item {
     /// Bytes in the structure block.
     pub fn size(&self) -> usize {
         match self {
-            Item::Begin(name) => 4 + (name.len() + 1).next_multiple_of(4),
-            Item::Prop(_, value) => 12 + value.len().next_multiple_of(4),
+            Item::Begin(name) => 4 + padded(name.len() + 1),
+            Item::Prop(_, value) => 12 + padded(value.len()),
             _ => 4,
         }
     }
@@ -78,8 +79,8 @@ pub fn set_word(blob: &mut [u8], at: usize, word: u32) {
 }
 
 pub fn word(blob: &[u8], at: usize) -> u32 {
-    let bytes = blob[at..].first_chunk().expect("the word is in the blob");
-    u32::from_be_bytes(*bytes)
+    let bytes = blob[at..at + 4].try_into();
+    u32::from_be_bytes(bytes.expect("four bytes"))
 }
 
 /// The items of a sound blob, NOPs left out.

@@ -1,5 +1,6 @@
 //! Blobs for tests: how a list of items is laid out.
 
+use super::blob::padded;
 use super::flat::*;
 
 /// Where the strings block is.
@@ -60,7 +61,7 @@ impl Writer {
 
     fn padded(&mut self, bytes: &[u8]) {
         self.structure.extend(bytes);
-        let length = self.structure.len().next_multiple_of(4);
+        let length = padded(self.structure.len());
         self.structure.resize(length, self.padding);
     }
 
@@ -123,7 +124,7 @@ pub fn write(list: &[Item], form: &Form) -> Vec<u8> {
         places = place_names(&names, &mut text, form.share);
         strings = (blob.len(), text.len());
         blob.extend(text);
-        blob.resize(blob.len().next_multiple_of(4), form.padding);
+        blob.resize(padded(blob.len()), form.padding);
         structure_at = blob.len();
         blob.extend(&structure);
     } else {

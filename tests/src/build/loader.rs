@@ -11,8 +11,7 @@ use super::Node;
 use crate::rng::Rng;
 use crate::second::BYTES_ANSWER;
 
-/// Bytes of a row.
-pub const ROW_BYTES: usize = 48;
+pub use sunderwath::ROW_BYTES;
 
 /// What is lent beside a blob.
 #[derive(Clone, Copy, Debug, PartialEq, Eq)]
@@ -50,7 +49,7 @@ impl Lent {
     pub fn of_text(text: &str) -> Option<Lent> {
         let line = text.lines().find_map(|line| line.strip_prefix("# lent "))?;
         let numbers: Option<Vec<usize>> = line.split(' ').map(|n| n.parse().ok()).collect();
-        let [width, rows, answer, start] = numbers?.try_into().ok()?;
+        let [width, rows, answer, start]: [usize; 4] = numbers?.try_into().ok()?;
         Some(Lent {
             width: u32::try_from(width).ok()?,
             rows,

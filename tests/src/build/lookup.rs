@@ -4,11 +4,11 @@
 use super::damage::repeat;
 use super::{Board, FULL_ROOM};
 use crate::rng::Rng;
+use std::fmt;
 
 const NONE: u32 = u32::MAX;
 
 /// A way in which a property record breaks rule 7.
-#[derive(Debug)]
 pub struct Way {
     pub what: &'static str,
     /// The node word and the name stay as they are.
@@ -17,47 +17,53 @@ pub struct Way {
     change: fn(&mut [u32], u32, u32),
 }
 
+/// Whether a changed record keeps its node word and its name.
+const KEPT: bool = true;
+const CHANGED: bool = false;
+
+macro_rules! way {
+    ($what:literal, $keeps_name:expr, $change:expr) => {
+        Way {
+            what: $what,
+            keeps_name: $keeps_name,
+            change: $change,
+        }
+    };
+}
+
 pub const WAYS: [Way; 13] = [
-    other("node of the count", |prop, nodes, _| prop[0] = nodes),
-    other("node 0xFFFFFFFF", |prop, _, _| prop[0] = NONE),
-    other("name of 0 bytes", |prop, _, _| prop[2] = 0),
-    other("name of 32 bytes", |prop, _, _| prop[2] = 32),
-    other("name of 0xFFFFFFFF bytes", |prop, _, _| prop[2] = NONE),
-    other("name a byte too far", |prop, _, pool| {
+    way!("node of the count", CHANGED, |prop, nodes, _| prop[0] =
+        nodes),
+    way!("node 0xFFFFFFFF", CHANGED, |prop, _, _| prop[0] = NONE),
+    way!("name of 0 bytes", CHANGED, |prop, _, _| prop[2] = 0),
+    way!("name of 32 bytes", CHANGED, |prop, _, _| prop[2] = 32),
+    way!("name of 0xFFFFFFFF bytes", CHANGED, |prop, _, _| prop[2] =
+        NONE),
+    way!("name a byte too far", CHANGED, |prop, _, pool| {
         prop[1] = (pool + 1).wrapping_sub(prop[2])
     }),
-    other("name at 0xFFFFFFFF", |prop, _, _| prop[1] = NONE),
-    other("name that ends at 2^32", |prop, _, _| {
+    way!("name at 0xFFFFFFFF", CHANGED, |prop, _, _| prop[1] = NONE),
+    way!("name that ends at 2^32", CHANGED, |prop, _, _| {
         prop[1] = prop[2].wrapping_neg()
     }),
-    same("value a byte too far", |prop, _, pool| {
+    way!("value a byte too far", KEPT, |prop, _, pool| {
         prop[3] = (pool + 1).wrapping_sub(prop[4])
     }),
-    same("value at 0xFFFFFFFF", |prop, _, _| prop[3] = NONE),
-    same("value that ends at 2^32", |prop, _, _| {
+    way!("value at 0xFFFFFFFF", KEPT, |prop, _, _| prop[3] = NONE),
+    way!("value that ends at 2^32", KEPT, |prop, _, _| {
         prop[4] = 8;
         prop[3] = NONE - 7;
     }),
-    same("value a byte too long", |prop, _, pool| {
+    way!("value a byte too long", KEPT, |prop, _, pool| {
         prop[4] = (pool + 1).wrapping_sub(prop[3])
     }),
-    same("value of 0xFFFFFFFF bytes", |prop, _, _| prop[4] = NONE),
+    way!("value of 0xFFFFFFFF bytes", KEPT, |prop, _, _| prop[4] =
+        NONE),
 ];
 
-/// The node, or the name, is another one or none.
-const fn other(what: &'static str, change: fn(&mut [u32], u32, u32)) -> Way {
-    Way {
-        what,
-        keeps_name: false,
-        change,
-    }
-}
-
-const fn same(what: &'static str, change: fn(&mut [u32], u32, u32)) -> Way {
-    Way {
-        what,
-        keeps_name: true,
-        change,
+impl fmt::Debug for Way {
+    fn fmt(&self, f: &mut fmt::Formatter<'_>) -> fmt::Result {
+        f.write_str(self.what)
     }
 }
 

@@ -4,6 +4,7 @@ use super::damage::{garbage, repeat, some_width, spoil_tables, spoil_tree};
 use super::shapes::{fill_up, regular_board_of, valid_board};
 use super::{Board, Node, FULL_ROOM};
 use crate::rng::Rng;
+use sunderwath::ROW_WORDS;
 
 /// A board of any sort: sound, damaged once or in pairs, or garbage.
 pub fn any_board(rng: &mut Rng) -> Board {
@@ -50,10 +51,10 @@ fn lay_out(rng: &mut Rng, width: u32, root: &Node) -> Board {
 /// Mostly enough; at times around what the children of record 0 need.
 fn some_room(rng: &mut Rng, root: &Node) -> usize {
     if rng.one_in(8) {
-        let need = 12 * (root.children.len() - root.children.len().min(1));
+        let need = ROW_WORDS * (root.children.len() - root.children.len().min(1));
         (need + rng.below(27)).saturating_sub(13)
     } else {
-        12 * root.children.len() + rng.below(3)
+        ROW_WORDS * root.children.len() + rng.below(3)
     }
 }
 

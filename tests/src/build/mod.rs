@@ -28,9 +28,10 @@ pub mod worked;
 
 use crate::rng::Rng;
 use std::collections::HashMap;
+use sunderwath::{MAX_CPUS, ROW_WORDS};
 
 /// Row words that are enough for every board.
-pub const FULL_ROOM: usize = 12 * 256;
+pub const FULL_ROOM: usize = ROW_WORDS * MAX_CPUS;
 
 /// Name and value.
 pub type Property = (Vec<u8>, Vec<u8>);

@@ -13,5 +13,5 @@ pub fn overlapping_names(props: u32, bytes: usize) -> Vec<u8> {
     cells.extend([[0, 0, 0, 2], [0, 0, 0, 2], [0, 0, 0, 9]]);
     let mut strings = vec![b'x'; bytes];
     strings[bytes - 1] = 0;
-    join(cells.as_flattened(), &strings)
+    join(&cells.concat(), &strings)
 }

@@ -7,6 +7,7 @@ use super::shapes::valid_tree;
 use super::{Board, Node};
 use crate::rng::Rng;
 use crate::width::ARM_WIDTHS;
+use sunderwath::ROW_WORDS;
 
 /// Where the affinity levels begin; each has eight bits.
 const BEGINS: [u32; 4] = [0, 8, 16, 32];
@@ -141,7 +142,7 @@ pub fn lay_out(rng: &mut Rng, width: u32, root: &Node) -> Board {
         true => Board::of(width, root),
         false => Board::shuffled(width, root, rng),
     };
-    board.room = 12 * cpu_children(root).len() + rng.below(14);
+    board.room = ROW_WORDS * cpu_children(root).len() + rng.below(14);
     board
 }
 

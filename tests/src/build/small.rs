@@ -3,6 +3,7 @@
 use super::worked::{cpu_node, cpus_node};
 use super::{cell, Board, Node};
 use crate::width::RISCV;
+use sunderwath::ROW_WORDS;
 
 pub const NAMES: [&str; 8] = [
     "socket0", "cluster0", "cluster1", "core0", "core1", "thread0", "thread1", "x",
@@ -67,7 +68,7 @@ fn board(width: u32, parents: &[Option<usize>], nodes: &[Node], cpus: usize) -> 
             .push(cpu_node(1, u64::from(reg), at as u32 + 1));
     }
     let mut board = Board::of(width, &root);
-    board.room = 12 * cpus;
+    board.room = ROW_WORDS * cpus;
     board
 }
 

@@ -198,9 +198,8 @@ impl<'a> Reader<'a> {
             if self.value(fact.device_type) != Some(b"cpu\0") {
                 return Err(Answer::refusal(11, record).of_property(fact.device_type));
             }
-            let Some(mpidr) = self.reg(fact.reg, cells, bits) else {
-                return Err(Answer::refusal(12, record).of_property(fact.reg));
-            };
+            let refusal = || Answer::refusal(12, record).of_property(fact.reg);
+            let mpidr = self.reg(fact.reg, cells, bits).ok_or_else(refusal)?;
             if self.cpus[..at].iter().any(|cpu| cpu.mpidr == mpidr) {
                 return Err(Answer::refusal(13, record));
             }
@@ -222,9 +221,7 @@ impl<'a> Reader<'a> {
                 }
             }
         }
-        let Some(map) = map else {
-            return Err(Answer::refusal(15, 0));
-        };
+        let map = map.ok_or_else(|| Answer::refusal(15, 0))?;
         self.facts[map].kind = Kind::Map;
         match other {
             Some(other) => Err(Answer::refusal(16, other)),
@@ -324,10 +321,10 @@ impl<'a> Reader<'a> {
     /// 24 and 25.
     fn check_leaf(&mut self, prop: u32) -> u32 {
         let asked = self.value(prop).and_then(cell);
-        let Some(at) = asked.and_then(|p| self.cpu_at(p)) else {
-            return 24;
+        let cpu = match asked.and_then(|p| self.cpu_at(p)) {
+            Some(at) => &mut self.cpus[at],
+            None => return 24,
         };
-        let cpu = &mut self.cpus[at];
         let again = cpu.named;
         cpu.named = true;
         if again {

@@ -2,6 +2,7 @@
 //! the cells checks and counts, a second one over `/cpus` alone fills.
 
 use super::board::read_tables;
+use super::chunks::{chunks, chunks_mut};
 use crate::answer::Answer;
 
 const MAGIC: usize = 0xD00D_FEED;
@@ -47,7 +48,7 @@ fn zeros(word: u64) -> u64 {
 
 /// Bytes before the first zero byte.
 fn length(bytes: &[u8]) -> usize {
-    let (chunks, rest) = bytes.as_chunks::<8>();
+    let (chunks, rest) = chunks::<_, 8>(bytes);
     for (at, &chunk) in chunks.iter().enumerate() {
         let zeros = zeros(u64::from_le_bytes(chunk));
         if zeros != 0 {
@@ -60,8 +61,8 @@ fn length(bytes: &[u8]) -> usize {
 
 /// Rules 31 and 32.
 fn open(bytes: &[u8]) -> Result<Blob<'_>, u32> {
-    let header: &[u8; HEADER_BYTES] = bytes.first_chunk().ok_or(31u32)?;
-    let word = |at: usize| u32::from_be_bytes(header.as_chunks().0[at]) as usize;
+    let header = chunks(bytes.get(..HEADER_BYTES).ok_or(31u32)?).0;
+    let word = |at: usize| u32::from_be_bytes(header[at]) as usize;
     let (magic, total) = (word(0), word(1));
     let sized = (HEADER_BYTES..=bytes.len()).contains(&total);
     if bytes.len() > BLOB_LIMIT || magic != MAGIC || !sized {
@@ -72,14 +73,14 @@ fn open(bytes: &[u8]) -> Result<Blob<'_>, u32> {
     }
     let (start, size) = (word(2), word(9));
     let (strings, length) = (word(3), word(8));
-    let aligned = (start | size).is_multiple_of(4);
+    let aligned = (start | size) % 4 == 0;
     if start + size > total || strings + length > total || !aligned {
         return Err(32);
     }
     let names = &bytes[strings..strings + length];
     Ok(Blob {
         bytes,
-        cells: bytes[start..start + size].as_chunks().0,
+        cells: chunks(&bytes[start..start + size]).0,
         start,
         strings,
         named: names.iter().rposition(|&b| b == 0).map_or(0, |at| at + 1),
@@ -105,17 +106,16 @@ impl Blob<'_> {
 
     /// Offset of a property's name, size of its value, and the next cell.
     fn property(&self, at: usize) -> Option<(usize, usize, usize)> {
-        let &[_, size, name] = self.cells[at..].first_chunk()?;
-        let size = u32::from_be_bytes(size) as usize;
-        let name = u32::from_be_bytes(name) as usize;
-        let next = at + 3 + size.div_ceil(4);
+        let cells = self.cells[at..].get(1..3)?;
+        let size = u32::from_be_bytes(cells[0]) as usize;
+        let name = u32::from_be_bytes(cells[1]) as usize;
+        let next = at + 3 + (size + 3) / 4;
         let sound = next <= self.cells.len() && name < self.named;
         sound.then_some((self.strings + name, size, next))
     }
 
     fn is_cpus(&self, from: usize) -> bool {
-        let name = self.cells[from..].first_chunk();
-        name.is_some_and(|[name, behind]| name == b"cpus" && behind[0] == 0)
+        matches!(self.cells[from..], [[b'c', b'p', b'u', b's'], [0, ..], ..])
     }
 
     /// Rule 33, or the cell where the stream breaks.
@@ -214,12 +214,12 @@ pub fn read_flat(bytes: &[u8], nodes: &mut [u32], props: &mut [u32]) -> FlatAnsw
     if found.cpus != 1 {
         return [34, 0, 0, 0];
     }
-    let node_room = nodes.as_chunks_mut().0.get_mut(..found.nodes);
-    let prop_room = props.as_chunks_mut().0.get_mut(..found.props);
-    let (Some(nodes), Some(props)) = (node_room, prop_room) else {
-        return [35, 0, 0, 0];
+    let node_room = chunks_mut(nodes).get_mut(..found.nodes);
+    let prop_room = chunks_mut(props).get_mut(..found.props);
+    let whole = match (node_room, prop_room) {
+        (Some(nodes), Some(props)) => blob.fill(found.first, nodes, props),
+        _ => return [35, 0, 0, 0],
     };
-    let whole = blob.fill(found.first, nodes, props);
     debug_assert!(whole.is_some(), "the first pass found it sound");
     [0, 0, found.nodes as u32, found.props as u32]
 }

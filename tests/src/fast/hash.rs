@@ -26,8 +26,9 @@ pub(super) fn slot(mpidr: u64, mask: u64, shifts: &[u32; 4]) -> u32 {
 }
 
 fn list_mask(list: &[u64]) -> Result<u64, Answer> {
-    let (Some(&first), true) = (list.first(), list.len() <= 256) else {
-        return Err(Answer::refusal(28, 0));
+    let first = match list.first() {
+        Some(&first) if list.len() <= 256 => first,
+        _ => return Err(Answer::refusal(28, 0)),
     };
     let (mut any, mut mask) = (0, 0);
     for &mpidr in list {

@@ -2,6 +2,7 @@
 //! the benchmarks. They share no code with the second reader.
 
 mod board;
+mod chunks;
 mod flat;
 mod hash;
 mod tables;

@@ -30,10 +30,10 @@ pub(super) fn check(width: u32, nodes: &[u32], props: &[u32], pool: &[u8]) -> Re
     if !matches!(width, ARM32 | ARM64 | RISCV) {
         return fail(1);
     }
-    if !nodes.len().is_multiple_of(3) || count == 0 || count > NODE_LIMIT {
+    if nodes.len() % 3 != 0 || count == 0 || count > NODE_LIMIT {
         return fail(2);
     }
-    if !props.len().is_multiple_of(5) || props.len() / 5 > PROP_LIMIT {
+    if props.len() % 5 != 0 || props.len() / 5 > PROP_LIMIT {
         return fail(3);
     }
     if pool.len() > POOL_LIMIT {
@@ -47,9 +47,7 @@ pub(super) fn check(width: u32, nodes: &[u32], props: &[u32], pool: &[u8]) -> Re
 fn check_nodes(nodes: &[u32], pool: &[u8]) -> Result<(), Answer> {
     let mut path: Vec<u32> = Vec::with_capacity(32);
     for (record, node) in nodes.chunks_exact(3).enumerate() {
-        let [parent, offset, length] = *node else {
-            unreachable!()
-        };
+        let [parent, offset, length] = [node[0], node[1], node[2]];
         if length.wrapping_sub(1) >= 64 || !inside(offset, length, pool) {
             return Err(Answer::refusal(5, record));
         }
@@ -58,7 +56,7 @@ fn check_nodes(nodes: &[u32], pool: &[u8]) -> Result<(), Answer> {
                 return Err(Answer::refusal(6, 0));
             }
         } else {
-            while path.last().is_some_and(|&top| top != parent) {
+            while path.last().map_or(false, |&top| top != parent) {
                 path.pop();
             }
             if path.is_empty() {
@@ -82,9 +80,8 @@ fn cell_of(node: u32, name: &[u8]) -> usize {
 fn check_props(count: u32, props: &[u32], pool: &[u8]) -> Result<(), Answer> {
     let mut seen = [EMPTY; CELLS];
     for (at, prop) in props.chunks_exact(5).enumerate() {
-        let [node, offset, length, value, bytes] = *prop else {
-            unreachable!()
-        };
+        let [node, offset, length] = [prop[0], prop[1], prop[2]];
+        let [value, bytes] = [prop[3], prop[4]];
         if node >= count
             || length.wrapping_sub(1) >= 31
             || !inside(offset, length, pool)

@@ -27,12 +27,11 @@ pub struct Told {
 impl Told {
     /// Nothing is written into an answer that is too short.
     fn unless_short(answer_n: usize, read: impl FnOnce() -> (Answer, Vec<u32>)) -> Told {
-        let (answer, rows) = match answer_n {
-            0..BYTES_ANSWER => (None, Vec::new()),
-            _ => {
-                let (answer, rows) = read();
-                (Some(answer), rows)
-            }
+        let (answer, rows) = if answer_n < BYTES_ANSWER {
+            (None, Vec::new())
+        } else {
+            let (answer, rows) = read();
+            (Some(answer), rows)
         };
         Told { answer, rows }
     }

@@ -55,8 +55,8 @@ fn header(blob: &[u8]) -> Header {
 
 /// The big-endian word at an offset, if all its bytes are there.
 pub fn word_at(bytes: &[u8], at: usize) -> Option<u32> {
-    let word = bytes.get(at..)?.first_chunk::<4>()?;
-    Some(u32::from_be_bytes(*word))
+    let word = bytes.get(at..)?.get(..4)?;
+    Some(u32::from_be_bytes(word.try_into().ok()?))
 }
 
 /// Number 31: the first of its reasons that holds.
@@ -84,8 +84,8 @@ fn block_fault(h: &Header) -> Option<Why> {
     let faults = [
         (structure_out, Why::StructureOutside),
         (strings_out, Why::StringsOutside),
-        (!h.structure.is_multiple_of(4), Why::OffsetUneven),
-        (!h.structure_size.is_multiple_of(4), Why::SizeUneven),
+        (h.structure % 4 != 0, Why::OffsetUneven),
+        (h.structure_size % 4 != 0, Why::SizeUneven),
     ];
     faults.iter().find(|(holds, _)| *holds).map(|(_, why)| *why)
 }

@@ -35,13 +35,15 @@ fn count(kinds: &[Kind], kind: Kind) -> usize {
 /// One node and the end token, NOPs apart. The node is open after each of its
 /// tokens but the last, and no property follows the end of a child.
 fn whole(stream: &[Kind]) -> bool {
-    let Some((Kind::End, before)) = stream.split_last() else {
-        return false;
+    let before = match stream.split_last() {
+        Some((Kind::End, before)) => before,
+        _ => return false,
     };
     let node: Vec<Kind> = before.iter().copied().filter(|&k| k != Kind::Nop).collect();
     let depths: Vec<isize> = depths(&node).collect();
-    let Some((last, inner)) = depths.split_last() else {
-        return false;
+    let (last, inner) = match depths.split_last() {
+        Some(parts) => parts,
+        None => return false,
     };
     node[0] == Kind::Begin
         && *last == 0
@@ -53,7 +55,7 @@ fn whole(stream: &[Kind]) -> bool {
 }
 
 /// How many nodes are open after each token.
-fn depths(kinds: &[Kind]) -> impl Iterator<Item = isize> + use<'_> {
+fn depths(kinds: &[Kind]) -> impl Iterator<Item = isize> + '_ {
     kinds.iter().scan(0, |depth, kind| {
         *depth += match kind {
             Kind::Begin => 1,
@@ -74,7 +76,7 @@ fn can_be_completed(start: &[Kind]) -> bool {
         }
         let begun = count(&stream, Kind::Begin);
         let open = begun.saturating_sub(count(&stream, Kind::EndNode));
-        stream.extend(std::iter::repeat_n(Kind::EndNode, open));
+        stream.extend(std::iter::repeat(Kind::EndNode).take(open));
         stream.push(Kind::End);
     }
     whole(&stream)

@@ -43,7 +43,7 @@ pub fn tokens(blob: &[u8], structure: Range<usize>, strings: Range<usize>) -> Ve
         if let Token::Bad(_) = token {
             break;
         }
-        at += 4 + data.next_multiple_of(4);
+        at += 4 + (data + 3) / 4 * 4;
     }
     list
 }
@@ -88,8 +88,9 @@ impl Blocks<'_> {
 
     fn property(&self, at: usize) -> (Token, usize) {
         let words = [at + 4, at + 8].map(|at| word_at(self.blob, at));
-        let [Some(length), Some(offset)] = words.map(|word| word.map(|w| w as usize)) else {
-            return (Token::Bad(Why::PropertyLeaves), 0);
+        let (length, offset) = match words {
+            [Some(length), Some(offset)] => (length as usize, offset as usize),
+            _ => return (Token::Bad(Why::PropertyLeaves), 0),
         };
         let value = (at + 12, length);
         if length > self.blob.len() - value.0 {

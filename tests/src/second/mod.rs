@@ -11,6 +11,7 @@ mod flat_tokens;
 mod flat_why;
 mod hash;
 mod lookup;
+mod once;
 mod rows;
 mod rules;
 mod second_place;

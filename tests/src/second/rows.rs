@@ -6,6 +6,8 @@ use super::tables::{Kind, Tables};
 use crate::answer::Answer;
 use crate::width::RISCV;
 
+/// Words of a row.
+pub const ROW_WORDS: usize = 12;
 const GAP: u32 = u32::MAX;
 const NO_RULE_AFTER: u32 = 27;
 
@@ -80,7 +82,7 @@ fn ancestor_numbers(tables: &Tables, leaf: usize, kind: Kind) -> Vec<u32> {
     numbers
 }
 
-fn row(tables: &Tables, slots: &Slots, leaf: usize) -> [u32; 12] {
+fn row(tables: &Tables, slots: &Slots, leaf: usize) -> [u32; ROW_WORDS] {
     let cpu = tables.cpu_of(leaf).expect("rule 24 holds");
     let (upper, lower) = reg(tables, cpu).expect("rule 12 holds");
     let (kind, number) = tables.topology(leaf).expect("a leaf has a topology name");

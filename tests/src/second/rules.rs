@@ -1,6 +1,7 @@
 //! Rules 1 to 27, 36 and 37: one predicate for each number, and the stages in
 //! order.
 
+use super::rows::ROW_WORDS;
 use super::second_place::refusal;
 use super::tables::{cells, Kind, Tables};
 use crate::answer::Answer;
@@ -95,8 +96,8 @@ pub fn breaks(t: &Tables, number: u32, place: usize) -> bool {
         24 => t.is_leaf(place) && t.cpu_of(place).is_none(),
         25 => t.is_leaf(place) && names_cpu_again(t, place),
         26 => !(1..t.node_count()).any(|r| t.is_leaf(r) && t.cpu_of(r) == Some(place)),
-        27 => t.room < 12 * t.cpus().len(),
-        36 => !address_cells(t).is_some_and(|cells| cells == 1 || t.width == ARM64),
+        27 => t.room < ROW_WORDS * t.cpus().len(),
+        36 => !address_cells(t).map_or(false, |cells| cells == 1 || t.width == ARM64),
         37 => t.value(0, b"#size-cells") != Some(&[0, 0, 0, 0]),
         _ => false,
     }
@@ -145,7 +146,9 @@ pub fn reg(t: &Tables, cpu: usize) -> Option<(u32, u32)> {
 
 /// A hart id has any value, an MPIDR the affinity bits only.
 fn bad_reg(t: &Tables, cpu: usize) -> bool {
-    !reg(t, cpu).is_some_and(|(upper, lower)| t.width == RISCV || affinity_bits(upper, lower))
+    !reg(t, cpu).map_or(false, |(upper, lower)| {
+        t.width == RISCV || affinity_bits(upper, lower)
+    })
 }
 
 fn affinity_bits(upper: u32, lower: u32) -> bool {
@@ -160,7 +163,7 @@ fn same_as_earlier_cpu(t: &Tables, cpu: usize, name: &[u8]) -> bool {
 }
 
 fn bad_phandle(t: &Tables, cpu: usize) -> bool {
-    let sound = t.value(cpu, b"phandle").is_some_and(|value| {
+    let sound = t.value(cpu, b"phandle").map_or(false, |value| {
         value.len() == 4 && value.iter().any(|&b| b != 0) && value.iter().any(|&b| b != 0xFF)
     });
     !sound || same_as_earlier_cpu(t, cpu, b"phandle")
@@ -181,8 +184,9 @@ fn kinds_under(t: &Tables, parent: usize) -> &'static [Kind] {
 
 /// Allowed under its parent, and of the kind of the parent's first child.
 fn kind_allowed(t: &Tables, record: usize) -> bool {
-    let (Some(kind), Some(parent)) = (t.kind(record), t.parent(record)) else {
-        return false;
+    let (kind, parent) = match (t.kind(record), t.parent(record)) {
+        (Some(kind), Some(parent)) => (kind, parent),
+        _ => return false,
     };
     let first = t.children(parent)[0];
     kinds_under(t, parent).contains(&kind) && t.kind(first) == Some(kind)
@@ -199,13 +203,15 @@ fn siblings<'t>(t: &'t Tables, record: usize) -> &'t [usize] {
 
 /// The number is not below the count of siblings.
 fn number_too_high(t: &Tables, record: usize) -> bool {
-    number(t, record).is_some_and(|number| number as usize >= siblings(t, record).len())
+    number(t, record).map_or(false, |number| number as usize >= siblings(t, record).len())
 }
 
 /// The number equals that of an earlier sibling, of whatever kind.
 fn number_taken(t: &Tables, record: usize) -> bool {
     let mut earlier = siblings(t, record).iter().filter(|&&other| other < record);
-    number(t, record).is_some_and(|own| earlier.any(|&other| number(t, other) == Some(own)))
+    number(t, record).map_or(false, |own| {
+        earlier.any(|&other| number(t, other) == Some(own))
+    })
 }
 
 fn nested_too_deep(t: &Tables, record: usize) -> bool {

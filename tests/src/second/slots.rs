@@ -1,11 +1,10 @@
 //! Reading a board with a table from slots to rows.
 
-use super::rows::read;
+use super::rows::{read, ROW_WORDS};
 use super::tables::Tables;
 use crate::answer::Answer;
 
 const GAP: u32 = u32::MAX;
-const ROW_WORDS: usize = 12;
 const SLOT_WORD: usize = 11;
 
 /// More bits than these are refused.

@@ -1,6 +1,6 @@
 //! What the tables say of records, names, properties and ancestors.
 
-use std::cell::OnceCell;
+use super::once::Once;
 
 const NODE_WORDS: usize = 3;
 const PROP_WORDS: usize = 5;
@@ -28,11 +28,11 @@ pub struct Tables<'a> {
     pub pool: &'a [u8],
     /// Words of the row buffer.
     pub room: usize,
-    cpus: OnceCell<Vec<usize>>,
-    map: OnceCell<Option<usize>>,
-    props_of: OnceCell<Vec<Vec<usize>>>,
-    children_of: OnceCell<Vec<Vec<usize>>>,
-    named: OnceCell<Vec<Option<usize>>>,
+    cpus: Once<Vec<usize>>,
+    map: Once<Option<usize>>,
+    props_of: Once<Vec<Vec<usize>>>,
+    children_of: Once<Vec<Vec<usize>>>,
+    named: Once<Vec<Option<usize>>>,
 }
 
 impl<'a> Tables<'a> {
@@ -49,11 +49,11 @@ impl<'a> Tables<'a> {
             props,
             pool,
             room,
-            cpus: OnceCell::new(),
-            map: OnceCell::new(),
-            props_of: OnceCell::new(),
-            children_of: OnceCell::new(),
-            named: OnceCell::new(),
+            cpus: Once::new(),
+            map: Once::new(),
+            props_of: Once::new(),
+            children_of: Once::new(),
+            named: Once::new(),
         }
     }
 
@@ -66,11 +66,11 @@ impl<'a> Tables<'a> {
     }
 
     pub fn whole_nodes(&self) -> bool {
-        self.nodes.len().is_multiple_of(NODE_WORDS)
+        self.nodes.len() % NODE_WORDS == 0
     }
 
     pub fn whole_props(&self) -> bool {
-        self.props.len().is_multiple_of(PROP_WORDS)
+        self.props.len() % PROP_WORDS == 0
     }
 
     /// The pool's bytes from `offset`, if all of them are in the pool.
@@ -120,7 +120,7 @@ impl<'a> Tables<'a> {
         (record > 0 && parent < record).then_some(parent)
     }
 
-    pub fn ancestors(&self, record: usize) -> impl Iterator<Item = usize> + use<'_, 'a> {
+    pub fn ancestors(&self, record: usize) -> impl Iterator<Item = usize> + '_ {
         std::iter::successors(self.parent(record), |&r| self.parent(r))
     }
 
@@ -162,10 +162,7 @@ impl<'a> Tables<'a> {
         self.cpus.get_or_init(|| {
             (1..self.node_count())
                 .filter(|&r| self.parent(r) == Some(0))
-                .filter(|&r| {
-                    self.name(r)
-                        .is_some_and(|n| n == b"cpu" || n.starts_with(b"cpu@"))
-                })
+                .filter(|&r| matches!(self.name(r), Some(b"cpu" | [b'c', b'p', b'u', b'@', ..])))
                 .collect()
         })
     }
@@ -179,7 +176,7 @@ impl<'a> Tables<'a> {
     }
 
     pub fn in_map(&self, record: usize) -> bool {
-        self.map().is_some_and(|map| self.below(record, map))
+        self.map().map_or(false, |map| self.below(record, map))
     }
 
     /// Kind and number of a record with a topology name.

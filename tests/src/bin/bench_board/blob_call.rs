@@ -1,11 +1,11 @@
 //! Time of a blob to rows, in turns: the blob call, the fast version with its
 //! rows copied to bytes and, with the feature `fdt`, the reader over libfdt.
 
-use std::hint::black_box;
+use sunderwath::ROW_WORDS;
 use sunderwath_tests::build::shapes::regular_board_of;
 use sunderwath_tests::build::{blob, FULL_ROOM};
 use sunderwath_tests::second::{BYTES_ANSWER, MOST_NODES, MOST_PROPERTIES};
-use sunderwath_tests::timing::best_in_turns;
+use sunderwath_tests::timing::{best_in_turns, black_box};
 use sunderwath_tests::width::{ARM64, RISCV};
 use sunderwath_tests::{fast, ffi};
 
@@ -46,14 +46,14 @@ impl Lent {
         let Lent { nodes, props, .. } = self;
         let answer = fast::read_blob(self.width, blob, nodes, props, &mut self.words);
         self.read &= answer.number == 0;
-        self.copy_rows(12 * answer.count as usize);
+        self.copy_rows(ROW_WORDS * answer.count as usize);
     }
 
     /// Writes the first words of the rows as little-endian bytes.
     fn copy_rows(&mut self, words: usize) {
-        let places = self.rows.as_chunks_mut().0.iter_mut();
+        let places = self.rows.chunks_exact_mut(4);
         for (place, word) in places.zip(&self.words[..words]) {
-            *place = word.to_le_bytes();
+            place.copy_from_slice(&word.to_le_bytes());
         }
     }
 

@@ -1,18 +1,15 @@
 //! Time of a whole board: the library, the fast version and, with the feature
 //! `fdt`, a reader over libfdt that starts from a blob and knows ARM boards only.
-//! With the feature `loader` the blob call too, beside peers that start from a
-//! blob as well.
+//! Then the blob call, beside peers that start from a blob as well.
 
-use std::hint::black_box;
 use sunderwath_tests::answer::ANSWER_WORDS;
 use sunderwath_tests::build::order::reverse_siblings;
 use sunderwath_tests::build::shapes::{fill_up, regular_board, regular_board_of};
 use sunderwath_tests::build::{Board, Node, FULL_ROOM};
-use sunderwath_tests::timing::best_ns;
+use sunderwath_tests::timing::{best_ns, black_box};
 use sunderwath_tests::width::{ARM64, RISCV};
 use sunderwath_tests::{fast, ffi};
 
-#[cfg(feature = "loader")]
 mod blob_call;
 
 #[cfg(feature = "fdt")]
@@ -124,6 +121,5 @@ fn main() {
     let mut worst = regular_board(256);
     fill_up(&mut worst, 1024, 4096);
     measure("256 cpus, full tables", ARM64, &worst, 2);
-    #[cfg(feature = "loader")]
     blob_call::run();
 }
