@@ -1,9 +1,9 @@
 #!/usr/bin/env bash
 # SPDX-License-Identifier: BSD-2-Clause OR GPL-2.0-or-later
 # Makes sure that what the other scripts call is there: the Rattle kit, and some of Debian's packages.
-#   setup.sh        what proving, building and showing a board needs
-#   setup.sh boot   that, and what builds and boots the firmware for both processors
-#   setup.sh test   that, and what the tests need
+#   setup.sh show              what proving and building the library and showing a board needs
+#   setup.sh aarch64|riscv64   what building and booting the firmware for that processor needs
+#   setup.sh test              what all tests need
 # Missing packages are installed; who is not root is told which they are.
 set -euo pipefail
 
@@ -25,16 +25,23 @@ for_showing() {
     need dtc device-tree-compiler
 }
 
-for_booting() {
+for_aarch64() {
     need make make
     need aarch64-linux-gnu-gcc gcc-aarch64-linux-gnu libc6-dev-arm64-cross
-    need riscv64-linux-gnu-gcc gcc-riscv64-linux-gnu libc6-dev-riscv64-cross
     need qemu-system-aarch64 qemu-system-arm
+}
+
+for_riscv64() {
+    need make make
+    need riscv64-linux-gnu-gcc gcc-riscv64-linux-gnu libc6-dev-riscv64-cross
     need qemu-system-riscv64 qemu-system-misc
 }
 
 # Debian's own cargo is tried beside another one.
 for_testing() {
+    for_showing
+    for_aarch64
+    for_riscv64
     need g++ g++
     need /usr/bin/cargo cargo
     need valgrind valgrind
@@ -56,16 +63,13 @@ install_missing() {
     DEBIAN_FRONTEND=noninteractive apt-get install -y -qq --no-install-recommends "${missing[@]}" >&2
 }
 
-for_showing
-case ${1:-show} in
-show) ;;
-boot) for_booting ;;
-test)
-    for_booting
-    for_testing
-    ;;
+case ${1:-} in
+show) for_showing ;;
+aarch64) for_aarch64 ;;
+riscv64) for_riscv64 ;;
+test) for_testing ;;
 *)
-    echo "usage: setup.sh [show|boot|test]" >&2
+    echo "usage: setup.sh show|aarch64|riscv64|test" >&2
     exit 2
     ;;
 esac

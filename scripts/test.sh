@@ -30,7 +30,7 @@ took "proofs and must-fail edits"
 ./scripts/statements.sh
 took "facts that stand by themselves"
 
-./scripts/setup.sh
+./scripts/setup.sh test
 took "installing"
 
 ./scripts/outside.sh
