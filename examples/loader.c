@@ -1,3 +1,4 @@
+/* SPDX-License-Identifier: BSD-2-Clause OR GPL-2.0-or-later */
 /*
  * A loader in C: reads a flattened devicetree from a file with the two calls that take and write bytes only. It prints the answer and the
  * rows, with the columns of `sunderwath -p` and record numbers in place of names; then the slot that sunderwath_slot tells of each row's

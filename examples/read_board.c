@@ -1,3 +1,4 @@
+/* SPDX-License-Identifier: BSD-2-Clause OR GPL-2.0-or-later */
 /*
  * Reads a board of two processors from tables and prints their rows; then the same board with a fault, which is refused with the
  * number of the rule, the node record and the property record.

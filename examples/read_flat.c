@@ -1,3 +1,4 @@
+/* SPDX-License-Identifier: BSD-2-Clause OR GPL-2.0-or-later */
 /*
  * Reads a flattened devicetree from a file and prints the rows of its processors: the blob into tables, and the tables, with the blob as
  * their pool, into rows. BOARD is the board number: 64 (which it is without one), 32 or, for RISC-V, 5.

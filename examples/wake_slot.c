@@ -1,3 +1,4 @@
+/* SPDX-License-Identifier: BSD-2-Clause OR GPL-2.0-or-later */
 /*
  * The wake path. A board of three processors is read once, with a table from slot to row; a processor that wakes knows its MPIDR and finds
  * its row: the slot from mask and shifts, the row from the table, and then the row's MPIDR, as one that is not on the board can have the

@@ -1,3 +1,4 @@
+/* SPDX-License-Identifier: BSD-2-Clause OR GPL-2.0-or-later */
 /*
  * sunderwath.h - read the processor topology of an ARM or RISC-V board
  *

@@ -1,3 +1,4 @@
+/* SPDX-License-Identifier: BSD-2-Clause OR GPL-2.0-or-later */
 /*
  * sunderwath_text.c - the numbers of sunderwath.h in words
  *

@@ -27,11 +27,16 @@ clang=$own/toolchain/bin/clang
 
 # ---- what changed
 
+# The crates that the library is made of.
+dependencies() { sed -n 's/^sunderwath: *//p' crates.txt; }
+
 # One line for all that the module is made of: the kit, the crates, and this script.
 inputs() {
     {
         cat "$kit/KIT-ID"
-        find crates -type f -not -path '*/must-fail/*' -print0 | sort -z | xargs -0 sha256sum
+        # shellcheck disable=SC2046
+        find $(dependencies | tr ' ' '\n' | sed 's,^,crates/,') crates/sunderwath -type f -not -path '*/must-fail/*' -print0 |
+            sort -z | xargs -0 sha256sum
         sha256sum crates.txt scripts/archive.sh
     } | sha256sum | cut -d' ' -f1
 }
@@ -62,9 +67,6 @@ SCRIPT
     chmod +x "$folder/bin/clang"
     echo "$folder"
 }
-
-# The crates that the library is made of.
-dependencies() { sed -n 's/^sunderwath: *//p' crates.txt; }
 
 # The options that name these crates, one to a line.
 externs() {

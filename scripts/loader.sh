@@ -1,4 +1,5 @@
 #!/usr/bin/env bash
+# SPDX-License-Identifier: BSD-2-Clause OR GPL-2.0-or-later
 # examples/loader.c, as C and as C++, beside the command line: on every board of boards/, read as each kind of board, they give the same
 # rows and slots, or refuse it with the same number in the same words. Beside examples/read_flat.c: the same records and places. Then
 # boards at the limits that only the loader's call has.

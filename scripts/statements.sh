@@ -1,4 +1,5 @@
 #!/usr/bin/env bash
+# SPDX-License-Identifier: BSD-2-Clause OR GPL-2.0-or-later
 # Facts stand by themselves: no file of specs/facts/ uses an answer or a step, no answer uses a step, and no contract that
 # other crates or C can reach cites a step. Prints how many lines there are of each.
 set -euo pipefail

@@ -1,4 +1,5 @@
 #!/usr/bin/env bash
+# SPDX-License-Identifier: BSD-2-Clause OR GPL-2.0-or-later
 # All tests: every crate proved from nothing, every must-fail edit refused, every program run; facts
 # that use no computed definition; then the programs in Rust and C that call the archive. The last line is that of `rt ci`,
 # whose whole output is kept in target/ci.log. Nothing is installed before the proofs are done.

@@ -1,3 +1,4 @@
+// SPDX-License-Identifier: BSD-2-Clause OR GPL-2.0-or-later
 //! Compiles and links the C reader over libfdt, where the benchmarks are to time it. The archive comes with the crate `sunderwath`.
 
 use std::env;

@@ -1,3 +1,4 @@
+/* SPDX-License-Identifier: BSD-2-Clause OR GPL-2.0-or-later */
 /*
  * A plain reader over libfdt that does the job of the library from a blob:
  * walk /cpus and its cpu-map, look up phandles, work out the hash of all

@@ -1,3 +1,4 @@
+/* SPDX-License-Identifier: BSD-2-Clause OR GPL-2.0-or-later */
 /*
  * Builds a flattened devicetree, token by token: the structure block behind the
  * header, the strings block behind that.

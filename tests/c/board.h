@@ -1,3 +1,4 @@
+/* SPDX-License-Identifier: BSD-2-Clause OR GPL-2.0-or-later */
 /*
  * Builds small boards, the whole case of the scope paper among them, and
  * compares lent words with the words around them.

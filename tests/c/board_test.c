@@ -1,3 +1,4 @@
+/* SPDX-License-Identifier: BSD-2-Clause OR GPL-2.0-or-later */
 /*
  * Calls read_tables, check_tables and find_property from C on the whole case
  * of the scope paper and on some refusals, those with a second place among

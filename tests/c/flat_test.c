@@ -1,3 +1,4 @@
+/* SPDX-License-Identifier: BSD-2-Clause OR GPL-2.0-or-later */
 /*
  * Calls read_flat from C on a small blob and on blobs that are refused. Each
  * blob is lent as an allocation of its own length, so that valgrind sees a byte

@@ -1,3 +1,4 @@
+/* SPDX-License-Identifier: BSD-2-Clause OR GPL-2.0-or-later */
 /*
  * Calls list_hash and list_slot from C on the worked cases of the scope paper
  * and on each refusal. Prints a line per case; exit status 1 on a difference.

@@ -1,3 +1,4 @@
+/* SPDX-License-Identifier: BSD-2-Clause OR GPL-2.0-or-later */
 /*
  * Calls read_blob and slot from C: the whole case of the scope paper as a blob,
  * rows and answers of every length, blobs and boards that are refused, RISC-V

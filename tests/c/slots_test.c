@@ -1,3 +1,4 @@
+/* SPDX-License-Identifier: BSD-2-Clause OR GPL-2.0-or-later */
 /*
  * Calls read_tables_slots from C: the whole case of the scope paper and boards
  * of other hashes, with tables of lengths around two to the bit count; RISC-V

@@ -1,3 +1,4 @@
+/* SPDX-License-Identifier: BSD-2-Clause OR GPL-2.0-or-later */
 /*
  * Measures the stack that sunderwath_read_tables, sunderwath_read_tables_slots,
  * sunderwath_read_flat, sunderwath_read_blob and sunderwath_slot need. Each

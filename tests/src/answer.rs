@@ -1,3 +1,4 @@
+// SPDX-License-Identifier: BSD-2-Clause OR GPL-2.0-or-later
 //! The eleven words that the calls of the library answer with, and the four of
 //! read_flat.
 

@@ -1,3 +1,4 @@
+// SPDX-License-Identifier: BSD-2-Clause OR GPL-2.0-or-later
 //! What the program `cases` reads, and what it has to write as the second
 //! reader has it.
 

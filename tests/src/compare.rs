@@ -1,3 +1,4 @@
+// SPDX-License-Identifier: BSD-2-Clause OR GPL-2.0-or-later
 //! Compares the readers on one board, with every word that is lent.
 
 use crate::answer::Answer;

@@ -1,3 +1,4 @@
+// SPDX-License-Identifier: BSD-2-Clause OR GPL-2.0-or-later
 //! Compares read_blob with the second reader on one blob, with every byte that
 //! is lent and the bytes around them, and with read_flat and read_tables.
 

@@ -1,3 +1,4 @@
+// SPDX-License-Identifier: BSD-2-Clause OR GPL-2.0-or-later
 //! Compares the library with the second reader on one blob, with every word
 //! that is lent and the words around them.
 

@@ -1,3 +1,4 @@
+// SPDX-License-Identifier: BSD-2-Clause OR GPL-2.0-or-later
 //! Compares the slot call on bytes with the second reader on one list, with
 //! every byte that is lent and the bytes around them, and with list_slot.
 

@@ -1,3 +1,4 @@
+// SPDX-License-Identifier: BSD-2-Clause OR GPL-2.0-or-later
 //! How often each number was told of boards, with a property record and without.
 
 use crate::answer::{Answer, NO_PROPERTY, SHORT_ANSWER};

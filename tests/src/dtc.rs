@@ -1,3 +1,4 @@
+// SPDX-License-Identifier: BSD-2-Clause OR GPL-2.0-or-later
 //! The boards in `boards/`, compiled with dtc.
 
 use std::path::{Path, PathBuf};

@@ -1,3 +1,4 @@
+// SPDX-License-Identifier: BSD-2-Clause OR GPL-2.0-or-later
 //! The reader over libfdt (c/bench_fdt.c), a peer in the benchmarks.
 
 use crate::answer::ANSWER_WORDS;

@@ -1,3 +1,4 @@
+// SPDX-License-Identifier: BSD-2-Clause OR GPL-2.0-or-later
 //! The library's calls with tables as three slices: into a lent answer of any
 //! length, or with an answer of their own.
 

@@ -1,3 +1,4 @@
+// SPDX-License-Identifier: BSD-2-Clause OR GPL-2.0-or-later
 //! Lent parts of bytes, each between bytes that have to stay.
 
 /// Bytes before and behind a part; more than a row has.

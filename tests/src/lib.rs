@@ -1,3 +1,4 @@
+// SPDX-License-Identifier: BSD-2-Clause OR GPL-2.0-or-later
 //! An independent second reader of board tables and what is needed to compare
 //! it with the library: calls, generators, and fast versions for benchmarks.
 

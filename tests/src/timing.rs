@@ -1,3 +1,4 @@
+// SPDX-License-Identifier: BSD-2-Clause OR GPL-2.0-or-later
 //! Best of several repetitions, for the benchmarks.
 
 use std::arch::asm;

@@ -1,3 +1,4 @@
+// SPDX-License-Identifier: BSD-2-Clause OR GPL-2.0-or-later
 //! The board numbers that rule 1 allows; the calls take them as the width.
 
 pub const ARM32: u32 = 32;

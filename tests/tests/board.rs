@@ -1,3 +1,4 @@
+// SPDX-License-Identifier: BSD-2-Clause OR GPL-2.0-or-later
 //! read_tables against the second reader.
 
 use sunderwath::ROW_WORDS;

@@ -1,3 +1,4 @@
+// SPDX-License-Identifier: BSD-2-Clause OR GPL-2.0-or-later
 //! The files of the program `cases` hold what is built here.
 
 use std::fs;

@@ -1,3 +1,4 @@
+// SPDX-License-Identifier: BSD-2-Clause OR GPL-2.0-or-later
 //! read_flat against the second reader: layouts, lengths, damage, large blobs.
 
 use sunderwath_tests::answer::FLAT_ANSWER_WORDS;

@@ -1,3 +1,4 @@
+// SPDX-License-Identifier: BSD-2-Clause OR GPL-2.0-or-later
 //! read_flat and then read_tables: the boards that dtc compiles, trees written
 //! as tables and as blobs, and what read_tables may tell of a blob's tables.
 

@@ -1,3 +1,4 @@
+// SPDX-License-Identifier: BSD-2-Clause OR GPL-2.0-or-later
 //! What read_flat refuses, with number and place by hand, and compared with the
 //! second reader.
 

@@ -1,3 +1,4 @@
+// SPDX-License-Identifier: BSD-2-Clause OR GPL-2.0-or-later
 //! read_blob on the boards of `boards/` as dtc compiles them, and on the worked
 //! boards as they are built here.
 

@@ -1,3 +1,4 @@
+// SPDX-License-Identifier: BSD-2-Clause OR GPL-2.0-or-later
 //! read_blob against the second reader: blobs of every layout, and blobs with
 //! damage at every place.
 

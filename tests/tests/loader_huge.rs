@@ -1,3 +1,4 @@
+// SPDX-License-Identifier: BSD-2-Clause OR GPL-2.0-or-later
 //! The calls on bytes with parts whose length does not fit 32 bits: it is told
 //! of as it is, and no more is touched than of shorter parts.
 

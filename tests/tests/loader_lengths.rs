@@ -1,3 +1,4 @@
+// SPDX-License-Identifier: BSD-2-Clause OR GPL-2.0-or-later
 //! Rows and answers of read_blob of every length, from every start.
 
 use sunderwath_tests::answer::NO_PROPERTY;

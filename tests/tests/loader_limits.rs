@@ -1,3 +1,4 @@
+// SPDX-License-Identifier: BSD-2-Clause OR GPL-2.0-or-later
 //! The blob call holds 1,024 nodes and 1,024 properties of the `/cpus` subtree;
 //! what stands outside it does not count.
 

@@ -1,3 +1,4 @@
+// SPDX-License-Identifier: BSD-2-Clause OR GPL-2.0-or-later
 //! read_blob against the second reader on a mixture of blobs: the numbers told
 //! are exactly those that a blob can bring about.
 

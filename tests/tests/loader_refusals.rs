@@ -1,3 +1,4 @@
+// SPDX-License-Identifier: BSD-2-Clause OR GPL-2.0-or-later
 //! What read_blob refuses, with number, place and property record known from the
 //! tree, and the order of the numbers.
 

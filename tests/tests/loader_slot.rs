@@ -1,3 +1,4 @@
+// SPDX-License-Identifier: BSD-2-Clause OR GPL-2.0-or-later
 //! The slot call on bytes against the second reader and list_slot.
 
 use sunderwath_tests::answer::NO_PROPERTY;

@@ -1,3 +1,4 @@
+// SPDX-License-Identifier: BSD-2-Clause OR GPL-2.0-or-later
 //! find_property (W4) against the second reader and against answers by hand.
 
 use std::cmp::Ordering;

@@ -1,3 +1,4 @@
+// SPDX-License-Identifier: BSD-2-Clause OR GPL-2.0-or-later
 //! RISC-V boards through read_tables and read_tables_slots, against the second
 //! reader and by hand: hart ids, rows without slots, refusals, widths.
 

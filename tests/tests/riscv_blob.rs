@@ -1,3 +1,4 @@
+// SPDX-License-Identifier: BSD-2-Clause OR GPL-2.0-or-later
 //! RISC-V boards through read_blob, against the second reader, by hand, and as
 //! dtc compiles them.
 

@@ -1,3 +1,4 @@
+// SPDX-License-Identifier: BSD-2-Clause OR GPL-2.0-or-later
 //! Random RISC-V boards: hart ids of any 32 bits, and the same trees read as ARM
 //! boards.
 

@@ -1,3 +1,4 @@
+// SPDX-License-Identifier: BSD-2-Clause OR GPL-2.0-or-later
 //! 9, 36 and 37, and the second place of read_tables, against the second reader
 //! and against what a board is built of.
 

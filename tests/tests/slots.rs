@@ -1,3 +1,4 @@
+// SPDX-License-Identifier: BSD-2-Clause OR GPL-2.0-or-later
 //! read_tables_slots against the second reader, read_tables and W5's facts.
 
 use sunderwath::ROW_WORDS;

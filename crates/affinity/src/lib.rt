@@ -1,3 +1,4 @@
+// SPDX-License-Identifier: BSD-2-Clause OR GPL-2.0-or-later
 // The affinity hash: the slot of each MPIDR of a list, by the bits in which the list's MPIDRs differ.
 mod level;
 mod list;

@@ -1,3 +1,4 @@
+// SPDX-License-Identifier: BSD-2-Clause OR GPL-2.0-or-later
 // What is answered of a list of MPIDRs.
 use super::level::is_affine;
 use super::mask::gather;

@@ -1,3 +1,4 @@
+// SPDX-License-Identifier: BSD-2-Clause OR GPL-2.0-or-later
 // Reading the two blocks of a blob: a pass that checks the whole stream and counts, and a pass that fills.
 use crate::count::count_answer;
 use crate::count::refused;

@@ -1,3 +1,4 @@
+// SPDX-License-Identifier: BSD-2-Clause OR GPL-2.0-or-later
 // What is answered once the stream is known to be whole: 34, 35, or the counts.
 use flat::BlobAnswer;
 use laws::rules;

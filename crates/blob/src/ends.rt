@@ -1,3 +1,4 @@
+// SPDX-License-Identifier: BSD-2-Clause OR GPL-2.0-or-later
 // The ends of names in a strings block. A table has, for each run of 512 bytes, the first zero byte from its start on: so the end of any name is
 // found within 512 bytes, however long the name is, and names that overlap cost no more than others.
 use laws::at_most;

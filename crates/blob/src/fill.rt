@@ -1,3 +1,4 @@
+// SPDX-License-Identifier: BSD-2-Clause OR GPL-2.0-or-later
 // Filling the tables from the begin token of a node up to its close token.
 use crate::ends::MAX_RUNS;
 use crate::ends::name_end;

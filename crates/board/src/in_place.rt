@@ -1,3 +1,4 @@
+// SPDX-License-Identifier: BSD-2-Clause OR GPL-2.0-or-later
 // Reading a board whose property table is given up for the rows.
 use crate::Asked;
 use crate::read::check_rooms;

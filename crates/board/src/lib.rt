@@ -1,3 +1,4 @@
+// SPDX-License-Identifier: BSD-2-Clause OR GPL-2.0-or-later
 // The board reader: a board's tables in, rows and save slots out, or the first rule broken, where, and of which property.
 mod in_place;
 mod read;

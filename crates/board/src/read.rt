@@ -1,3 +1,4 @@
+// SPDX-License-Identifier: BSD-2-Clause OR GPL-2.0-or-later
 // Check, room, write: what the reading calls have in common.
 use crate::Asked;
 use crate::Checked;

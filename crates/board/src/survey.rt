@@ -1,3 +1,4 @@
+// SPDX-License-Identifier: BSD-2-Clause OR GPL-2.0-or-later
 // Rules 1 to 26, 36 and 37, and what the rows are made of: the cpu records, their `reg`s, the leaves and the cpus that they name.
 use crate::Surveyed;
 use cpus::CpuNumbers;

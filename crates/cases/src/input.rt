@@ -1,3 +1,4 @@
+// SPDX-License-Identifier: BSD-2-Clause OR GPL-2.0-or-later
 // Reading standard input. A word has four bytes, big-endian; in front of a table's elements stands a word that says how many follow.
 use libc::STDIN_FILENO;
 ghost use Rattle.io.specs.Counts.{Counts};

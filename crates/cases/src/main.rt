@@ -1,3 +1,4 @@
+// SPDX-License-Identifier: BSD-2-Clause OR GPL-2.0-or-later
 // Runs the cases of standard input and writes what the library answers of each: boards, boards with a table of slots, lists of MPIDRs and
 // names. The texts between the numbers are of standard input too. tests/src/bin/make_cases.rs makes the files stdin and stdout; the answers
 // in stdout are the second reader's.

@@ -1,3 +1,4 @@
+// SPDX-License-Identifier: BSD-2-Clause OR GPL-2.0-or-later
 // Writing to standard output.
 use crate::input;
 use affinity::Hash;

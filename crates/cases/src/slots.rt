@@ -1,3 +1,4 @@
+// SPDX-License-Identifier: BSD-2-Clause OR GPL-2.0-or-later
 // Boards with a table of slots.
 use crate::boards;
 use crate::input;

@@ -1,3 +1,4 @@
+-- SPDX-License-Identifier: BSD-2-Clause OR GPL-2.0-or-later
 -- The words of a record's path: the number of its cluster with so many clusters above it.
 -- Assumes well-formed tables, and that record 0 has no topology name.
 use mathlib.Core.Path.{_≡_, refl, sym, ap, _∙_}

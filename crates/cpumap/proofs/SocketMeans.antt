@@ -1,3 +1,4 @@
+-- SPDX-License-Identifier: BSD-2-Clause OR GPL-2.0-or-later
 -- The socket of a record: the nearest one among the record and its ancestors. Assumes well-formed tables, and that record 0 has no topology name.
 use mathlib.Core.Path.{_≡_, refl}
 use mathlib.Core.Bool.{false}

@@ -1,3 +1,4 @@
+// SPDX-License-Identifier: BSD-2-Clause OR GPL-2.0-or-later
 // The cpu map: its place, rules 15 and 16; what its records' names say; and where a record stands: its socket and clusters.
 mod find;
 mod number;

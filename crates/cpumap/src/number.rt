@@ -1,3 +1,4 @@
+// SPDX-License-Identifier: BSD-2-Clause OR GPL-2.0-or-later
 // A topology name's kind and number, as numbers.
 use names::TopologyName;
 ghost use mathlib.Core.Path.{_≡_};

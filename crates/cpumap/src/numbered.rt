@@ -1,3 +1,4 @@
+// SPDX-License-Identifier: BSD-2-Clause OR GPL-2.0-or-later
 // Whether the name of a record has a given number.
 use crate::number::kind_number;
 use crate::number::topology_number;

@@ -1,3 +1,4 @@
+// SPDX-License-Identifier: BSD-2-Clause OR GPL-2.0-or-later
 // What a record's name says, and the clusters on a path, outermost first.
 use crate::ClusterPath;
 use layout::GAP;

@@ -1,3 +1,4 @@
+// SPDX-License-Identifier: BSD-2-Clause OR GPL-2.0-or-later
 // Where a record stands: its socket and its clusters, read together.
 use crate::ClusterPath;
 use crate::Position;

@@ -1,3 +1,4 @@
+// SPDX-License-Identifier: BSD-2-Clause OR GPL-2.0-or-later
 // Cpu nodes: the cells of `/cpus`, the cpu records with their MPIDRs or hart ids and their phandles, and rules 9 to 13, 17, 36 and 37.
 mod node;
 mod numbers;

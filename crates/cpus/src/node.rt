@@ -1,3 +1,4 @@
+// SPDX-License-Identifier: BSD-2-Clause OR GPL-2.0-or-later
 // Cpu records: the children of record 0 named `cpu` or beginning `cpu@`.
 use tables::binding;
 use tables::cell_at;

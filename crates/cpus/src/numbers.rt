@@ -1,3 +1,4 @@
+// SPDX-License-Identifier: BSD-2-Clause OR GPL-2.0-or-later
 // One pass over a list of cpu records that gathers a number of each: rules 11 to 13, or rule 17.
 use crate::CpuNumbers;
 use crate::CpuReading;

@@ -1,3 +1,4 @@
+// SPDX-License-Identifier: BSD-2-Clause OR GPL-2.0-or-later
 // A property's value as a number of one cell or of two.
 use crate::Cells;
 use crate::Value;

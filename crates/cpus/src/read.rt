@@ -1,3 +1,4 @@
+// SPDX-License-Identifier: BSD-2-Clause OR GPL-2.0-or-later
 // What is read of one cpu record: rules 11, 12 and 17.
 use crate::CpuNumbers;
 use crate::CpuReading;

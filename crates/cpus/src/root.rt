@@ -1,3 +1,4 @@
+// SPDX-License-Identifier: BSD-2-Clause OR GPL-2.0-or-later
 // Rules 9, 10, 36 and 37: the root record and the number of cpu records.
 use crate::Cells;
 use crate::RootCells;

@@ -1,3 +1,4 @@
+-- SPDX-License-Identifier: BSD-2-Clause OR GPL-2.0-or-later
 -- That the definitions meet the demands, and that the demands leave one answer.
 pub mod StageLaws
 pub mod LayerLaws

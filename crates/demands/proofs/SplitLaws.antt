@@ -1,3 +1,4 @@
+-- SPDX-License-Identifier: BSD-2-Clause OR GPL-2.0-or-later
 -- The split of 01's rule 9: some rule was broken before it exactly where one is after it. Assumes nothing.
 use mathlib.Core.Path.{ap}
 use mathlib.Core.Logic.{inl, inr, ⊎-elim}

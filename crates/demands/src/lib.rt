@@ -1,3 +1,4 @@
+// SPDX-License-Identifier: BSD-2-Clause OR GPL-2.0-or-later
 // What is answered of a board, and what is demanded of the answer and of the row buffer: the rules in their order, and the claim.
 use affinity::Hash;
 use laws::Fault;

@@ -1,3 +1,4 @@
+-- SPDX-License-Identifier: BSD-2-Clause OR GPL-2.0-or-later
 -- Of a board made of a blob's records only the width, the counts of the records, the lengths of names and repeated properties are left to be told.
 -- Assumes nothing.
 use mathlib.Core.Path.{_≡_}

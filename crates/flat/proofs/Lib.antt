@@ -1,3 +1,4 @@
+-- SPDX-License-Identifier: BSD-2-Clause OR GPL-2.0-or-later
 -- Laws about the definitions of this crate.
 pub mod HeaderMeans
 pub mod RuleLaws

@@ -1,3 +1,4 @@
+// SPDX-License-Identifier: BSD-2-Clause OR GPL-2.0-or-later
 // Rule 32, and where the blocks stand. A sum of two cells is formed as an index, so it does not wrap.
 use crate::BlockPlaces;
 use laws::rules;

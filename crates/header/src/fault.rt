@@ -1,3 +1,4 @@
+// SPDX-License-Identifier: BSD-2-Clause OR GPL-2.0-or-later
 // Rule 31: length, magic, total size and versions.
 use laws::limits::MAX_BLOB;
 use laws::rules;

@@ -1,3 +1,4 @@
+// SPDX-License-Identifier: BSD-2-Clause OR GPL-2.0-or-later
 // The header of a flattened devicetree: rules 31 and 32, and where its two blocks stand.
 mod blocks;
 mod fault;

@@ -1,3 +1,4 @@
+// SPDX-License-Identifier: BSD-2-Clause OR GPL-2.0-or-later
 // What every other crate uses: general laws, the numbers and the limits of the rules, what is told of a broken one, the search of a list,
 // and a length cut to the room.
 mod cut;

@@ -1,3 +1,4 @@
+// SPDX-License-Identifier: BSD-2-Clause OR GPL-2.0-or-later
 // The layout of rows: twelve words for each leaf, one row behind the other.
 ghost use mathlib.Core.Path.{_≡_};
 ghost use Rattle.layout.specs.answers.Words.{withRow};

@@ -1,3 +1,4 @@
+-- SPDX-License-Identifier: BSD-2-Clause OR GPL-2.0-or-later
 -- Where the records' `cpu` stand, by an index of properties and looked up. Assumes nothing.
 use mathlib.Core.Path.{_≡_, fun-ext}
 use mathlib.Core.List.{List}

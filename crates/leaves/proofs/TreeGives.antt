@@ -1,3 +1,4 @@
+-- SPDX-License-Identifier: BSD-2-Clause OR GPL-2.0-or-later
 -- The leaves of an accepted map: their list, and the cpu records that they name, each once. Assumes well-formed tables, sound cpu nodes and phandles.
 use mathlib.Core.Path.{_≡_, refl}
 use mathlib.Core.Bool.{Bool, true, false}

@@ -1,3 +1,4 @@
+-- SPDX-License-Identifier: BSD-2-Clause OR GPL-2.0-or-later
 -- The first broken one of rules 18 to 26 is told. Assumes well-formed tables, sound cpu nodes and phandles.
 use mathlib.Core.Path.{_≡_, refl}
 use mathlib.Core.Bool.{cond}

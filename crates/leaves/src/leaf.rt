@@ -1,3 +1,4 @@
+// SPDX-License-Identifier: BSD-2-Clause OR GPL-2.0-or-later
 // Leaves of the map and the cpus that they name: rule 24.
 use crate::RecordCheck;
 use cpus::Value;

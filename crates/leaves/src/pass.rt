@@ -1,3 +1,4 @@
+// SPDX-License-Identifier: BSD-2-Clause OR GPL-2.0-or-later
 // One pass over the records that gathers the leaves of the map: rules 18 to 25.
 use crate::RecordCheck;
 use crate::TreeScan;

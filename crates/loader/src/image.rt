@@ -1,3 +1,4 @@
+// SPDX-License-Identifier: BSD-2-Clause OR GPL-2.0-or-later
 // A flattened devicetree read into rows of bytes.
 use demands::BoardAnswer;
 use demands::refused;

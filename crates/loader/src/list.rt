@@ -1,3 +1,4 @@
+// SPDX-License-Identifier: BSD-2-Clause OR GPL-2.0-or-later
 // A list of MPIDRs in bytes.
 use affinity::ListSlot;
 use affinity::is_affine;

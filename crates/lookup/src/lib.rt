@@ -1,3 +1,4 @@
+// SPDX-License-Identifier: BSD-2-Clause OR GPL-2.0-or-later
 // Finding a property of a record by its name: a search of the property table that ends at its match.
 use tables::Lookup;
 use tables::found_at;

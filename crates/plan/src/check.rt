@@ -1,3 +1,4 @@
+// SPDX-License-Identifier: BSD-2-Clause OR GPL-2.0-or-later
 // Whether a plan is one for a list: its positions rise in the affinity bits, and no two different MPIDRs agree at all of them.
 use laws::Fault;
 use laws::limits::NO_PROPERTY;

@@ -1,3 +1,4 @@
+// SPDX-License-Identifier: BSD-2-Clause OR GPL-2.0-or-later
 // The planner: all mask bits, without each that can be dropped, from the lowest up.
 use super::check::clashes;
 use crate::Plan;

@@ -1,3 +1,4 @@
+// SPDX-License-Identifier: BSD-2-Clause OR GPL-2.0-or-later
 // The index of properties: for each of the first 1,024 records and each key, 0 or one more than the number of the property.
 use crate::INDEX_WORDS;
 use crate::KEYS;

@@ -1,3 +1,4 @@
+// SPDX-License-Identifier: BSD-2-Clause OR GPL-2.0-or-later
 // The properties that are looked up for many records: where each stands, noted in one pass over the property table.
 mod index;
 mod name;

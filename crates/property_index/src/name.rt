@@ -1,3 +1,4 @@
+// SPDX-License-Identifier: BSD-2-Clause OR GPL-2.0-or-later
 // Which key a property's name is.
 use crate::KEYS;
 use crate::Key;

@@ -1,3 +1,4 @@
+// SPDX-License-Identifier: BSD-2-Clause OR GPL-2.0-or-later
 // Each node record and each property: rules 5 to 8.
 mod name;
 mod nodes;

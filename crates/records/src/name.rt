@@ -1,3 +1,4 @@
+// SPDX-License-Identifier: BSD-2-Clause OR GPL-2.0-or-later
 // Names of nodes and of properties: their length, and that they lie inside the pool.
 use tables::is_inside;
 ghost use mathlib.Core.Path.{_≡_};

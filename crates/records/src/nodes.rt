@@ -1,3 +1,4 @@
+// SPDX-License-Identifier: BSD-2-Clause OR GPL-2.0-or-later
 // Rules 5 and 6: each node record.
 use crate::name::sound_name;
 use laws::CLEAR;

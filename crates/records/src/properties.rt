@@ -1,3 +1,4 @@
+// SPDX-License-Identifier: BSD-2-Clause OR GPL-2.0-or-later
 // Rules 7 and 8: each property.
 use crate::name::sound_name;
 use crate::starts::NO_START;

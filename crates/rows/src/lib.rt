@@ -1,3 +1,4 @@
+// SPDX-License-Identifier: BSD-2-Clause OR GPL-2.0-or-later
 // The rows of a board: one for each leaf, written into a lent buffer.
 mod leaf;
 mod slots;

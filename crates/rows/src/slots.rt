@@ -1,3 +1,4 @@
+// SPDX-License-Identifier: BSD-2-Clause OR GPL-2.0-or-later
 // The slots of a board: those of MPIDRs; hart ids have none.
 use crate::BoardSlots;
 use layout::GAP;

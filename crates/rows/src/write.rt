@@ -1,3 +1,4 @@
+// SPDX-License-Identifier: BSD-2-Clause OR GPL-2.0-or-later
 // Writing rows: each into its own words of the lent buffer.
 use crate::BoardSlots;
 use crate::NamedCpu;

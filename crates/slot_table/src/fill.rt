@@ -1,3 +1,4 @@
+// SPDX-License-Identifier: BSD-2-Clause OR GPL-2.0-or-later
 // Filling a table: gaps first, and then each row at its slot.
 use crate::entries_fault;
 use layout::GAP;

@@ -1,3 +1,4 @@
+// SPDX-License-Identifier: BSD-2-Clause OR GPL-2.0-or-later
 // The table from slots to rows: whether a table may be filled (38 and 39), and filling it.
 mod fill;
 

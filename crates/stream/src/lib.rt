@@ -1,3 +1,4 @@
+// SPDX-License-Identifier: BSD-2-Clause OR GPL-2.0-or-later
 // The token stream of a flattened devicetree: whether it is whole, and what the node `cpus` holds.
 mod step;
 mod walking;

@@ -1,3 +1,4 @@
+// SPDX-License-Identifier: BSD-2-Clause OR GPL-2.0-or-later
 // One token: what it does to a walk. `block` has the blob's bytes up to the end of the structure block.
 use crate::Next;
 use crate::Walk;

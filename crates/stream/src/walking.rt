@@ -1,3 +1,4 @@
+// SPDX-License-Identifier: BSD-2-Clause OR GPL-2.0-or-later
 // The walk over a structure block.
 use crate::Next;
 use crate::Surveyed;

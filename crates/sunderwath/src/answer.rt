@@ -1,3 +1,4 @@
+// SPDX-License-Identifier: BSD-2-Clause OR GPL-2.0-or-later
 // The eleven words of an answer.
 use affinity::Hash;
 use demands::BoardAnswer;

@@ -1,3 +1,4 @@
+// SPDX-License-Identifier: BSD-2-Clause OR GPL-2.0-or-later
 // The two calls of a loader, on bytes.
 use crate::answer::NO_SECOND;
 use laws::rules;

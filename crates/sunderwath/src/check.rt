@@ -1,3 +1,4 @@
+// SPDX-License-Identifier: BSD-2-Clause OR GPL-2.0-or-later
 // Rules 1 to 8 and the lookup of a property, for tests.
 use crate::answer::ANSWER_WORDS;
 use crate::answer::NO_HASH;

@@ -1,3 +1,4 @@
+// SPDX-License-Identifier: BSD-2-Clause OR GPL-2.0-or-later
 // The call on a flattened devicetree.
 use flat::BlobAnswer;
 use laws::rules;

@@ -1,3 +1,4 @@
+// SPDX-License-Identifier: BSD-2-Clause OR GPL-2.0-or-later
 // The two calls on a list of MPIDRs.
 use crate::answer::ANSWER_WORDS;
 use crate::answer::NO_HASH;

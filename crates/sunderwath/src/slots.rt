@@ -1,3 +1,4 @@
+// SPDX-License-Identifier: BSD-2-Clause OR GPL-2.0-or-later
 // The reading call that fills a table of slots, too.
 use crate::answer::ANSWER_WORDS;
 use crate::answer::put_board;

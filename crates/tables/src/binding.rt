@@ -1,3 +1,4 @@
+// SPDX-License-Identifier: BSD-2-Clause OR GPL-2.0-or-later
 // Names and values of the bindings, as cells of four bytes, or as three bytes where a name has no more.
 
 // `cpu@`

@@ -1,3 +1,4 @@
+// SPDX-License-Identifier: BSD-2-Clause OR GPL-2.0-or-later
 // The board numbers, which the width may be.
 pub const ARM32: u32 = 32;
 

@@ -1,3 +1,4 @@
+// SPDX-License-Identifier: BSD-2-Clause OR GPL-2.0-or-later
 // A board's three tables, read without trusting them: records, ancestors, ranges of the pool, properties; and the names of the bindings.
 pub mod binding;
 pub mod boards;

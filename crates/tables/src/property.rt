@@ -1,3 +1,4 @@
+// SPDX-License-Identifier: BSD-2-Clause OR GPL-2.0-or-later
 // A property record that was found, and its number.
 use crate::Found;
 use crate::Lookup;

@@ -1,3 +1,4 @@
+// SPDX-License-Identifier: BSD-2-Clause OR GPL-2.0-or-later
 // The cells that tokens begin with.
 
 pub const BEGIN_NODE: u32 = 1;

@@ -1,3 +1,4 @@
+// SPDX-License-Identifier: BSD-2-Clause OR GPL-2.0-or-later
 // Reading a token where one is known to stand: whether its data lie in the block is not tested again.
 use crate::TokenRead;
 use crate::cell::BEGIN_NODE;

@@ -1,3 +1,4 @@
+// SPDX-License-Identifier: BSD-2-Clause OR GPL-2.0-or-later
 // The tokens of a flattened devicetree: what stands at a place of the structure block.
 mod cell;
 mod known;

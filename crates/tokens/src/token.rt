@@ -1,3 +1,4 @@
+// SPDX-License-Identifier: BSD-2-Clause OR GPL-2.0-or-later
 // Reading one token of a structure block. `block` has the blob's bytes up to the end of that block.
 use crate::TokenRead;
 use crate::cell::BEGIN_NODE;

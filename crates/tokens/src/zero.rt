@@ -1,3 +1,4 @@
+// SPDX-License-Identifier: BSD-2-Clause OR GPL-2.0-or-later
 // Zero bytes: the next one, and the last one.
 ghost use mathlib.Core.Path.{_≡_};
 ghost use Rattle.tokens.specs.answers.Read.{zeroFrom, behindZero};

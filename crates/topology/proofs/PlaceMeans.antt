@@ -1,3 +1,4 @@
+-- SPDX-License-Identifier: BSD-2-Clause OR GPL-2.0-or-later
 -- Rules 18 to 23 at the map, outside the map and at record 0. Assumes well-formed tables.
 use mathlib.Core.Path.{_≡_, refl}
 use mathlib.Core.Bool.{cond}

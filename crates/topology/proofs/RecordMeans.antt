@@ -1,3 +1,4 @@
+-- SPDX-License-Identifier: BSD-2-Clause OR GPL-2.0-or-later
 -- Rules 19 to 23 at a record below the map: the smallest that is broken is told.
 -- Assumes well-formed tables, no topology name of record 0, and sound earlier records.
 use mathlib.Core.Path.{_≡_}

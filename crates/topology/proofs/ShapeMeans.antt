@@ -1,3 +1,4 @@
+-- SPDX-License-Identifier: BSD-2-Clause OR GPL-2.0-or-later
 -- The shape of any record: the smallest broken one of rules 18 to 23, and whether the record is a leaf.
 -- Assumes well-formed tables and no topology name of record 0 for the number told.
 use mathlib.Core.Path.{_≡_, refl}

@@ -1,3 +1,4 @@
+// SPDX-License-Identifier: BSD-2-Clause OR GPL-2.0-or-later
 // Kinds of the map's records and which may stand under which: rule 20.
 use cpumap::kind_number;
 use cpumap::topology_name;

@@ -1,3 +1,4 @@
+// SPDX-License-Identifier: BSD-2-Clause OR GPL-2.0-or-later
 // Rules 18 to 23 at one record, and whether it is a leaf.
 use crate::RecordShape;
 use crate::kind::kind_fault;

@@ -1,3 +1,4 @@
+// SPDX-License-Identifier: BSD-2-Clause OR GPL-2.0-or-later
 // Depth of clusters and groups without children: rules 22 and 23.
 use cpumap::position_of;
 use laws::rules;

@@ -1,3 +1,4 @@
+// SPDX-License-Identifier: BSD-2-Clause OR GPL-2.0-or-later
 // Rules 1 to 8 in the order of checking.
 use crate::sizes::size_fault;
 use laws::Fault;

@@ -1,3 +1,4 @@
+// SPDX-License-Identifier: BSD-2-Clause OR GPL-2.0-or-later
 // Rules 1 to 4: the width and the lengths of the tables. Each gives its number or 0.
 use laws::limits::MAX_NODES;
 use laws::limits::MAX_POOL;

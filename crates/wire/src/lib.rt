@@ -1,3 +1,4 @@
+// SPDX-License-Identifier: BSD-2-Clause OR GPL-2.0-or-later
 // Numbers in bytes, lowest byte first: words written, and numbers read.
 mod put;
 mod read;

@@ -1,3 +1,4 @@
+// SPDX-License-Identifier: BSD-2-Clause OR GPL-2.0-or-later
 // Writing words.
 use crate::WORD_BYTES;
 ghost use mathlib.Core.Path.{_≡_};

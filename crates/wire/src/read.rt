@@ -1,3 +1,4 @@
+// SPDX-License-Identifier: BSD-2-Clause OR GPL-2.0-or-later
 // Reading numbers.
 use crate::NUMBER_BYTES;
 ghost use mathlib.Core.Path.{_≡_};

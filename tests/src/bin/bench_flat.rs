@@ -1,3 +1,4 @@
+// SPDX-License-Identifier: BSD-2-Clause OR GPL-2.0-or-later
 //! Time of a blob: into tables, and on into rows. The library, the fast version
 //! and, with the feature `fdt`, a reader over libfdt.
 

@@ -1,3 +1,4 @@
+// SPDX-License-Identifier: BSD-2-Clause OR GPL-2.0-or-later
 //! Time of a lookup among 4,000 properties, and of boards that have as many: the
 //! library and the fast version.
 

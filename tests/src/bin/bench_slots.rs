@@ -1,3 +1,4 @@
+// SPDX-License-Identifier: BSD-2-Clause OR GPL-2.0-or-later
 //! Time of a whole board without and with the table from slots to rows, and of
 //! the question that the table answers: the row of a slot.
 

@@ -1,3 +1,4 @@
+// SPDX-License-Identifier: BSD-2-Clause OR GPL-2.0-or-later
 //! Time of rules 1 to 8: the library and the fast version.
 
 use sunderwath_tests::answer::ANSWER_WORDS;

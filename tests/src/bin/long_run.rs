@@ -1,3 +1,4 @@
+// SPDX-License-Identifier: BSD-2-Clause OR GPL-2.0-or-later
 //! Compares the readers on a million boards and more, or runs one again. Each
 //! board is read with a table from slots to rows too.
 //!

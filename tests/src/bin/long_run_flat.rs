@@ -1,3 +1,4 @@
+// SPDX-License-Identifier: BSD-2-Clause OR GPL-2.0-or-later
 //! Compares the readers on many blobs, or on one again. The blob call reads each
 //! of them too, and one of its own mixture, mostly boards, beside each.
 //!

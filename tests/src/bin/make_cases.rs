@@ -1,3 +1,4 @@
+// SPDX-License-Identifier: BSD-2-Clause OR GPL-2.0-or-later
 //! Writes what the program `cases` reads, and prints what it has to write.
 //!
 //! make_cases FILE

@@ -1,3 +1,4 @@
+// SPDX-License-Identifier: BSD-2-Clause OR GPL-2.0-or-later
 //! Writes a tree as a flattened devicetree (version 17), for readers of blobs.
 
 use super::Node;

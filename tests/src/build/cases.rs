@@ -1,3 +1,4 @@
+// SPDX-License-Identifier: BSD-2-Clause OR GPL-2.0-or-later
 //! What the program `cases` runs, each with a label: boards, alone and with a table of slots, lists and names.
 
 use super::faults::{faults, with_faults};

@@ -1,3 +1,4 @@
+// SPDX-License-Identifier: BSD-2-Clause OR GPL-2.0-or-later
 //! Changes that damage boards: to the tree, to the tables, and plain garbage.
 
 use super::property_faults::NEEDED;

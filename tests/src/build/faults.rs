@@ -1,3 +1,4 @@
+// SPDX-License-Identifier: BSD-2-Clause OR GPL-2.0-or-later
 //! A sound board, and single changes that each break one rule of it.
 
 use super::worked::{cpu_node, cpus_node, group, leaf};

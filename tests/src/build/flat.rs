@@ -1,3 +1,4 @@
+// SPDX-License-Identifier: BSD-2-Clause OR GPL-2.0-or-later
 //! What a blob's structure block holds: a list of items, which need not make a
 //! stream. `flat_form` lays it out.
 

@@ -1,3 +1,4 @@
+// SPDX-License-Identifier: BSD-2-Clause OR GPL-2.0-or-later
 //! A blob with the words lent for its tables: text form and shrinking.
 
 use super::flat::*;

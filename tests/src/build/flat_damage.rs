@@ -1,3 +1,4 @@
+// SPDX-License-Identifier: BSD-2-Clause OR GPL-2.0-or-later
 //! Damage to a blob, each sort at every place.
 
 use super::flat::*;

@@ -1,3 +1,4 @@
+// SPDX-License-Identifier: BSD-2-Clause OR GPL-2.0-or-later
 //! Streams with one fault each, and the item that is told.
 
 use super::flat::{Item, BEGIN_NODE, PROP};

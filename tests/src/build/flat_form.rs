@@ -1,3 +1,4 @@
+// SPDX-License-Identifier: BSD-2-Clause OR GPL-2.0-or-later
 //! Blobs for tests: how a list of items is laid out.
 
 use super::blob::padded;

@@ -1,3 +1,4 @@
+// SPDX-License-Identifier: BSD-2-Clause OR GPL-2.0-or-later
 //! Blobs as large as they may be, and one byte larger.
 
 use super::flat::*;

@@ -1,3 +1,4 @@
+// SPDX-License-Identifier: BSD-2-Clause OR GPL-2.0-or-later
 //! The mixture of blobs that the gate and the long run compare.
 
 use super::flat::*;

@@ -1,3 +1,4 @@
+// SPDX-License-Identifier: BSD-2-Clause OR GPL-2.0-or-later
 //! Trees for blobs: what may stand beside `/cpus`, and names that are not it.
 
 use super::damage::spoil_tree;

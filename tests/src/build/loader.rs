@@ -1,3 +1,4 @@
+// SPDX-License-Identifier: BSD-2-Clause OR GPL-2.0-or-later
 //! What is lent to the blob call, and the mixture of blobs that it is compared
 //! on: boards as blobs, sound and damaged in the tree, the tokens and the bytes.
 

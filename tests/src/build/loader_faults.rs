@@ -1,3 +1,4 @@
+// SPDX-License-Identifier: BSD-2-Clause OR GPL-2.0-or-later
 //! Boards with one fault each, as far as a blob can have it: the number, the
 //! place and the property record that are told.
 

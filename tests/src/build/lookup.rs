@@ -1,3 +1,4 @@
+// SPDX-License-Identifier: BSD-2-Clause OR GPL-2.0-or-later
 //! Property tables for lookups: the ways to break rule 7, and tables of any sort
 //! with a question.
 

@@ -1,3 +1,4 @@
+// SPDX-License-Identifier: BSD-2-Clause OR GPL-2.0-or-later
 //! The mixture of boards that the gate and the long run compare.
 
 use super::damage::{garbage, repeat, some_width, spoil_tables, spoil_tree};

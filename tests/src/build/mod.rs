@@ -1,3 +1,4 @@
+// SPDX-License-Identifier: BSD-2-Clause OR GPL-2.0-or-later
 //! Boards for tests: a tree of nodes, and the tables made from it.
 
 pub mod blob;

@@ -1,3 +1,4 @@
+// SPDX-License-Identifier: BSD-2-Clause OR GPL-2.0-or-later
 //! Boards whose siblings do not stand in the order of their numbers.
 
 use super::faults::{self, rename};

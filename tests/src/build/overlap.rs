@@ -1,3 +1,4 @@
+// SPDX-License-Identifier: BSD-2-Clause OR GPL-2.0-or-later
 //! A blob whose property names are the ends of one long string.
 
 use super::blob::join;

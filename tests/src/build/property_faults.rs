@@ -1,3 +1,4 @@
+// SPDX-License-Identifier: BSD-2-Clause OR GPL-2.0-or-later
 //! Boards with a fault in one property: missing, of a wrong length, of a wrong
 //! value. Properties of the same name stand at other nodes too.
 

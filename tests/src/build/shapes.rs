@@ -1,3 +1,4 @@
+// SPDX-License-Identifier: BSD-2-Clause OR GPL-2.0-or-later
 //! Generators of valid boards of all shapes.
 
 use super::property_faults::NEEDED;

@@ -1,3 +1,4 @@
+// SPDX-License-Identifier: BSD-2-Clause OR GPL-2.0-or-later
 //! Makes a failing board smaller, as long as it still fails.
 
 use super::Board;

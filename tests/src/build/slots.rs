@@ -1,3 +1,4 @@
+// SPDX-License-Identifier: BSD-2-Clause OR GPL-2.0-or-later
 //! Boards whose hash has a given number of bits, and the lengths of tables that
 //! are tried for them.
 

@@ -1,3 +1,4 @@
+// SPDX-License-Identifier: BSD-2-Clause OR GPL-2.0-or-later
 //! Every small map over a small alphabet of names.
 
 use super::worked::{cpu_node, cpus_node};

@@ -1,3 +1,4 @@
+// SPDX-License-Identifier: BSD-2-Clause OR GPL-2.0-or-later
 //! A text form of a board, so that a disagreement can be run again.
 
 use super::Board;

@@ -1,3 +1,4 @@
+// SPDX-License-Identifier: BSD-2-Clause OR GPL-2.0-or-later
 //! The worked boards: the whole case of the scope paper and the three examples
 //! of document 000.
 

@@ -1,3 +1,4 @@
+// SPDX-License-Identifier: BSD-2-Clause OR GPL-2.0-or-later
 //! The whole board in linear passes over the tables.
 
 use super::hash::{layout, slot};

@@ -1,3 +1,4 @@
+// SPDX-License-Identifier: BSD-2-Clause OR GPL-2.0-or-later
 //! A flattened devicetree into the tables of its `/cpus` node: one pass over
 //! the cells checks and counts, a second one over `/cpus` alone fills.
 

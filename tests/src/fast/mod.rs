@@ -1,3 +1,4 @@
+// SPDX-License-Identifier: BSD-2-Clause OR GPL-2.0-or-later
 //! Plain Rust versions of the library's jobs, written for speed, as peers in
 //! the benchmarks. They share no code with the second reader.
 

@@ -1,3 +1,4 @@
+// SPDX-License-Identifier: BSD-2-Clause OR GPL-2.0-or-later
 //! Rules 1 to 8 in one pass over each table, and a lookup that stops at its match.
 
 use crate::answer::Answer;

@@ -1,3 +1,4 @@
+// SPDX-License-Identifier: BSD-2-Clause OR GPL-2.0-or-later
 //! The two calls on bytes. Blobs, boards and lists are read by the other files;
 //! here is what the calls add: the limits, the byte order, lengths and 49.
 

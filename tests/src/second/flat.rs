@@ -1,3 +1,4 @@
+// SPDX-License-Identifier: BSD-2-Clause OR GPL-2.0-or-later
 //! The second reader of blobs, written from the request and the Devicetree
 //! Specification alone. The structure block becomes a list of tokens; whether
 //! it is a stream, and which records it has, is said of that list.

@@ -1,3 +1,4 @@
+// SPDX-License-Identifier: BSD-2-Clause OR GPL-2.0-or-later
 //! The records of a whole stream. A node's depth is all that is kept of the
 //! nesting: the nodes below it are those behind it that are deeper.
 

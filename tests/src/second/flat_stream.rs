@@ -1,3 +1,4 @@
+// SPDX-License-Identifier: BSD-2-Clause OR GPL-2.0-or-later
 //! Number 33. The specification says what a whole stream is. The first token at
 //! fault is the last one of the shortest list of tokens, from the first on, that
 //! no further tokens make whole.

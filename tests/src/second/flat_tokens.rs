@@ -1,3 +1,4 @@
+// SPDX-License-Identifier: BSD-2-Clause OR GPL-2.0-or-later
 //! The structure block as a list of tokens, up to the first that is none.
 
 use super::flat::word_at;

@@ -1,3 +1,4 @@
+// SPDX-License-Identifier: BSD-2-Clause OR GPL-2.0-or-later
 //! The hash of a list of MPIDRs, bit by bit.
 
 use crate::answer::Answer;

@@ -1,3 +1,4 @@
+// SPDX-License-Identifier: BSD-2-Clause OR GPL-2.0-or-later
 //! Looking a property up: what the call answers, and what W4 fixes of it.
 
 use super::rules::breaks;

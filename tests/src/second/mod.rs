@@ -1,3 +1,4 @@
+// SPDX-License-Identifier: BSD-2-Clause OR GPL-2.0-or-later
 //! The second reader, written from the papers alone. Each rule is said of
 //! records by quantifiers, and the answer is the least (stage, place, number).
 //! Blobs are read over a list of tokens, in the files `flat*.rs`; the calls on

@@ -1,3 +1,4 @@
+// SPDX-License-Identifier: BSD-2-Clause OR GPL-2.0-or-later
 //! Rules 1 to 27, 36 and 37: one predicate for each number, and the stages in
 //! order.
 

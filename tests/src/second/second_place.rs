@@ -1,3 +1,4 @@
+// SPDX-License-Identifier: BSD-2-Clause OR GPL-2.0-or-later
 //! The second place of a refusal: the property record that its number speaks of.
 
 use super::tables::Tables;

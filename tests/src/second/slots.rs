@@ -1,3 +1,4 @@
+// SPDX-License-Identifier: BSD-2-Clause OR GPL-2.0-or-later
 //! Reading a board with a table from slots to rows.
 
 use super::rows::{read, ROW_WORDS};

@@ -1,3 +1,4 @@
+// SPDX-License-Identifier: BSD-2-Clause OR GPL-2.0-or-later
 //! What the tables say of records, names, properties and ancestors.
 
 use super::once::Once;

@@ -1,3 +1,4 @@
+-- SPDX-License-Identifier: BSD-2-Clause OR GPL-2.0-or-later
 -- What is answered of a list of MPIDRs: numbers 28, 29 and 30.
 use mathlib.Core.Bool.{cond}
 use mathlib.Core.List.{List}

@@ -1,3 +1,4 @@
+-- SPDX-License-Identifier: BSD-2-Clause OR GPL-2.0-or-later
 -- The mask of a list of MPIDRs.
 use mathlib.Core.Bool.{true, false, cond}
 use mathlib.Core.List.{List}

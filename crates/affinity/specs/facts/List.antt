@@ -1,3 +1,4 @@
+-- SPDX-License-Identifier: BSD-2-Clause OR GPL-2.0-or-later
 -- Rules 28 to 30, and what is demanded of the answers about a list of MPIDRs (01, "The slot").
 use mathlib.Core.List.{[], _∷_, List}
 use mathlib.Core.Path.{_≡_}

@@ -1,3 +1,4 @@
+-- SPDX-License-Identifier: BSD-2-Clause OR GPL-2.0-or-later
 -- The slot of an MPIDR under a hash (01, "The slot").
 use Prim.Native.Nat.{ℕ, _*_, _/_, _^_}
 use lib.Bits.{bitAnd, bitOr}

@@ -1,3 +1,4 @@
+-- SPDX-License-Identifier: BSD-2-Clause OR GPL-2.0-or-later
 -- Lists with no bit outside, and the mask of a list with no fault.
 use mathlib.Core.List.{List}
 use mathlib.Core.Bool.{cond}

@@ -1,3 +1,4 @@
+-- SPDX-License-Identifier: BSD-2-Clause OR GPL-2.0-or-later
 -- The or of a list of MPIDRs, beside its mask.
 use mathlib.Core.List.{List}
 use Prim.Native.Nat.{ℕ, zero, suc}

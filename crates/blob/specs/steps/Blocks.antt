@@ -1,3 +1,4 @@
+-- SPDX-License-Identifier: BSD-2-Clause OR GPL-2.0-or-later
 -- The blocks of a blob as slices, and tables that have room where the blob is accepted.
 use mathlib.Core.Path.{_≡_}
 use mathlib.Core.List.{List}

@@ -1,3 +1,4 @@
+-- SPDX-License-Identifier: BSD-2-Clause OR GPL-2.0-or-later
 -- The end of a name, found by way of a table: for each run of 512 bytes, the first zero byte from its start on.
 use mathlib.Core.Path.{_≡_}
 use mathlib.Core.List.{List}

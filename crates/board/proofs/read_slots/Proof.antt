@@ -1,3 +1,4 @@
+-- SPDX-License-Identifier: BSD-2-Clause OR GPL-2.0-or-later
 -- `read_slots` reads for a table, and fills it where no rule is broken. Assumes nothing.
 use mathlib.Core.Path.{sym}
 use mathlib.Core.List.{List}

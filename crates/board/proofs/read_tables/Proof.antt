@@ -1,3 +1,4 @@
+-- SPDX-License-Identifier: BSD-2-Clause OR GPL-2.0-or-later
 -- `read_tables` reads for the rows alone. Assumes nothing.
 use native.Mathlib.Omega.{arith}
 use Rattle.tables.specs.facts.Board.{Board, WordSized, board}

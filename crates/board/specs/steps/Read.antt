@@ -1,3 +1,4 @@
+-- SPDX-License-Identifier: BSD-2-Clause OR GPL-2.0-or-later
 -- What is told of a board, by what is asked for.
 use mathlib.Core.Bool.{cond}
 use mathlib.Core.List.{List}

@@ -1,3 +1,4 @@
+-- SPDX-License-Identifier: BSD-2-Clause OR GPL-2.0-or-later
 -- What a survey answers, and what it leaves in the lent arrays.
 use mathlib.Core.Bool.{cond}
 use mathlib.Core.Path.{_≡_}

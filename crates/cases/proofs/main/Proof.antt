@@ -1,3 +1,4 @@
+-- SPDX-License-Identifier: BSD-2-Clause OR GPL-2.0-or-later
 -- The number of cases that are left falls. Assumes nothing.
 use borrow.Author.Needs.{needs}
 use Rattle.cases.proofs.main.Statement.{statement}

@@ -1,3 +1,4 @@
+-- SPDX-License-Identifier: BSD-2-Clause OR GPL-2.0-or-later
 -- Finding the map: rules 15 and 16.
 use mathlib.Core.Bool.{Bool, false, cond}
 use mathlib.Core.List.{List}

@@ -1,3 +1,4 @@
+-- SPDX-License-Identifier: BSD-2-Clause OR GPL-2.0-or-later
 -- Positions, from one record to the next.
 use Rattle.layout.specs.facts.Row.{gap}
 use Rattle.names.specs.declared.TopologyName.{TopologyName}

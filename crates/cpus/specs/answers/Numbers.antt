@@ -1,3 +1,4 @@
+-- SPDX-License-Identifier: BSD-2-Clause OR GPL-2.0-or-later
 -- A number of each cpu record of a list, its `reg` or its phandle, gathered in one pass over the list.
 use mathlib.Core.Bool.{cond, Bool}
 use mathlib.Core.List.{List, map}

@@ -1,3 +1,4 @@
+-- SPDX-License-Identifier: BSD-2-Clause OR GPL-2.0-or-later
 -- What holds of the answer and of the row buffer: demand 1 of every board, demand 3 of every board with well-formed tables, sound cpu nodes and room.
 use mathlib.Core.List.{List}
 use mathlib.Core.Path.{_≡_}

@@ -1,3 +1,4 @@
+-- SPDX-License-Identifier: BSD-2-Clause OR GPL-2.0-or-later
 -- All rules of 01's table, 1 to 27, and 02's 36 and 37: the number and the place of each broken one.
 use mathlib.Core.List.{List}
 use mathlib.Core.Path.{_≡_}

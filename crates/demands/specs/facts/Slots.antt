@@ -1,3 +1,4 @@
+-- SPDX-License-Identifier: BSD-2-Clause OR GPL-2.0-or-later
 -- What holds of the call that fills a table of slots besides the rows (02, W5): 38 and 39 behind all other rules, and the claim about it.
 use mathlib.Core.Path.{_≡_}
 use mathlib.Core.List.{List, _∷_}

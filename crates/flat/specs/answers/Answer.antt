@@ -1,3 +1,4 @@
+-- SPDX-License-Identifier: BSD-2-Clause OR GPL-2.0-or-later
 -- What the reader of a blob answers, and what it leaves in the lent tables.
 use mathlib.Core.Bool.{cond}
 use mathlib.Core.List.{List}

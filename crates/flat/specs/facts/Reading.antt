@@ -1,3 +1,4 @@
+-- SPDX-License-Identifier: BSD-2-Clause OR GPL-2.0-or-later
 -- What holds of the answer and of both lent tables, for every blob.
 use mathlib.Core.Path.{_≡_}
 use mathlib.Core.Logic.{_↔_}

@@ -1,3 +1,4 @@
+-- SPDX-License-Identifier: BSD-2-Clause OR GPL-2.0-or-later
 -- The board that an accepted blob makes: its `/cpus` records, with the blob as the pool; and what of rules 1 to 8 such a board can break.
 use mathlib.Core.List.{List}
 use mathlib.Core.Logic.{_⊎_}

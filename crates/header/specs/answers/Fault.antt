@@ -1,3 +1,4 @@
+-- SPDX-License-Identifier: BSD-2-Clause OR GPL-2.0-or-later
 -- What is told of a header: 31, 32, or 0; and where its blocks stand.
 use mathlib.Core.Bool.{cond}
 use mathlib.Core.List.{List}

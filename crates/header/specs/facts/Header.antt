@@ -1,3 +1,4 @@
+-- SPDX-License-Identifier: BSD-2-Clause OR GPL-2.0-or-later
 -- The header of a flattened devicetree (Devicetree Specification, 5.2): ten cells, of which these eight count, and the two blocks that they name.
 use mathlib.Core.List.{List}
 use Prim.Native.Nat.{ℕ, _+_}

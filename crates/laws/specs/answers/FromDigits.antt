@@ -1,3 +1,4 @@
+-- SPDX-License-Identifier: BSD-2-Clause OR GPL-2.0-or-later
 -- A number from its binary digits.
 use Prim.Native.Nat.{ℕ, zero, suc, _+_, _*_, _^_}
 

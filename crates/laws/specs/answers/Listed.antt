@@ -1,3 +1,4 @@
+-- SPDX-License-Identifier: BSD-2-Clause OR GPL-2.0-or-later
 -- Members of a list: laid at the front of a buffer, and what is told of one of them.
 use mathlib.Core.List.{List, _++_}
 use mathlib.Core.Bool.{cond}

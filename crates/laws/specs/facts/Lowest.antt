@@ -1,3 +1,4 @@
+-- SPDX-License-Identifier: BSD-2-Clause OR GPL-2.0-or-later
 -- The lowest number of a kind.
 use Prim.Native.Nat.{ℕ, _<_}
 

@@ -1,3 +1,4 @@
+-- SPDX-License-Identifier: BSD-2-Clause OR GPL-2.0-or-later
 -- Sums.
 use Prim.Native.Nat.{ℕ, zero, suc, _+_}
 

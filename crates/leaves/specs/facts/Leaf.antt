@@ -1,3 +1,4 @@
+-- SPDX-License-Identifier: BSD-2-Clause OR GPL-2.0-or-later
 -- The leaves of the map (01, "The row": leaf, what a leaf names).
 use mathlib.Core.Path.{_≡_}
 use mathlib.Core.List.{List}

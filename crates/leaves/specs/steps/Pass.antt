@@ -1,3 +1,4 @@
+-- SPDX-License-Identifier: BSD-2-Clause OR GPL-2.0-or-later
 -- What the two passes of the scan answer: over the records, and over the cpu records by their index.
 use mathlib.Core.Bool.{Bool, cond}
 use mathlib.Core.List.{List}

@@ -1,3 +1,4 @@
+-- SPDX-License-Identifier: BSD-2-Clause OR GPL-2.0-or-later
 -- What holds of the call on a list of MPIDRs in bytes (02, W6), for every input.
 use mathlib.Core.Path.{_≡_}
 use mathlib.Core.List.{List}

@@ -1,3 +1,4 @@
+-- SPDX-License-Identifier: BSD-2-Clause OR GPL-2.0-or-later
 -- `is_property` compares a property's node, and then its name. Assumes nothing.
 use borrow.Author.Needs.{needs}
 use Rattle.lookup.proofs.CodeLookup.{other-node, by-name}

@@ -1,3 +1,4 @@
+-- SPDX-License-Identifier: BSD-2-Clause OR GPL-2.0-or-later
 -- What a lookup of a property answers (02, W4).
 use mathlib.Core.Path.{_≡_}
 use mathlib.Core.Logic.{_↔_}

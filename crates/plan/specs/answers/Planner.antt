@@ -1,3 +1,4 @@
+-- SPDX-License-Identifier: BSD-2-Clause OR GPL-2.0-or-later
 -- Our planner: from all mask bits, each that can be dropped is dropped, from the lowest up.
 use mathlib.Core.Bool.{cond}
 use mathlib.Core.List.{List}

@@ -1,3 +1,4 @@
+-- SPDX-License-Identifier: BSD-2-Clause OR GPL-2.0-or-later
 -- The slot of an MPIDR under a plan.
 use mathlib.Core.Bool.{cond}
 use mathlib.Core.List.{List}

@@ -1,3 +1,4 @@
+-- SPDX-License-Identifier: BSD-2-Clause OR GPL-2.0-or-later
 -- A plan: bit positions at which the MPIDRs of a list differ, and the slot under it (02, W8).
 use mathlib.Core.Path.{_≡_}
 use mathlib.Core.List.{List, _++_}

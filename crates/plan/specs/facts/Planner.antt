@@ -1,3 +1,4 @@
+-- SPDX-License-Identifier: BSD-2-Clause OR GPL-2.0-or-later
 -- What is demanded of our planner (02, W8).
 use mathlib.Core.List.{List}
 use mathlib.Core.Logic.{_⊎_}

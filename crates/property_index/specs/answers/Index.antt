@@ -1,3 +1,4 @@
+-- SPDX-License-Identifier: BSD-2-Clause OR GPL-2.0-or-later
 -- The index of properties: at four times a record's number and a key's number, one more than the number of the property, or 0.
 use mathlib.Core.Bool.{cond}
 use mathlib.Core.List.{List}

@@ -1,3 +1,4 @@
+-- SPDX-License-Identifier: BSD-2-Clause OR GPL-2.0-or-later
 -- An index of properties, and what it finds: what a lookup does (02, W4).
 use mathlib.Core.Path.{_≡_}
 use mathlib.Core.List.{List}

@@ -1,3 +1,4 @@
+-- SPDX-License-Identifier: BSD-2-Clause OR GPL-2.0-or-later
 -- The properties that are indexed: their names and their numbers.
 use mathlib.Core.List.{List}
 use Prim.Native.Nat.{ℕ}

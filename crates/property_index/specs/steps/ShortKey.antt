@@ -1,3 +1,4 @@
+-- SPDX-License-Identifier: BSD-2-Clause OR GPL-2.0-or-later
 -- Keys of three bytes.
 use mathlib.Core.Bool.{cond}
 use Prim.Native.Nat.{ℕ}

@@ -1,3 +1,4 @@
+-- SPDX-License-Identifier: BSD-2-Clause OR GPL-2.0-or-later
 -- What the checks of rules 5 to 8 answer, record by record and property by property.
 use mathlib.Core.Bool.{Bool, false, cond, true}
 use mathlib.Core.List.{List}

@@ -1,3 +1,4 @@
+-- SPDX-License-Identifier: BSD-2-Clause OR GPL-2.0-or-later
 -- Where the properties of a node begin, so that a search for one of them can leave out what stands before.
 use Prim.Native.Nat.{ℕ, _%_}
 

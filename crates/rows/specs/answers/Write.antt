@@ -1,3 +1,4 @@
+-- SPDX-License-Identifier: BSD-2-Clause OR GPL-2.0-or-later
 -- All rows, and the buffer that they are written into.
 use mathlib.Core.List.{List, [], _++_}
 use mathlib.Core.Bool.{cond}

@@ -1,3 +1,4 @@
+-- SPDX-License-Identifier: BSD-2-Clause OR GPL-2.0-or-later
 -- The hash of a board (01, "The slot"): that of the MPIDRs of all its cpu records. A RISC-V board has none (02, W7).
 use mathlib.Core.Path.{_≡_}
 use mathlib.Core.List.{List, [], _∷_}

@@ -1,3 +1,4 @@
+-- SPDX-License-Identifier: BSD-2-Clause OR GPL-2.0-or-later
 -- Rows that fit a map (01, "The row"): each word as a fact about records, names and properties.
 use mathlib.Core.Path.{_≡_}
 use mathlib.Core.List.{List}

@@ -1,3 +1,4 @@
+-- SPDX-License-Identifier: BSD-2-Clause OR GPL-2.0-or-later
 -- Records whose position is that of their parent.
 use mathlib.Core.Bool.{Bool, true, false}
 use mathlib.Core.List.{List}

@@ -1,3 +1,4 @@
+-- SPDX-License-Identifier: BSD-2-Clause OR GPL-2.0-or-later
 -- Which of rules 38 and 39 is told, and the words of a table.
 use mathlib.Core.Bool.{cond}
 use mathlib.Core.List.{List, _++_}

@@ -1,3 +1,4 @@
+-- SPDX-License-Identifier: BSD-2-Clause OR GPL-2.0-or-later
 -- The table from slots to rows (02, W5): its two rules, and what its entries are.
 use mathlib.Core.Path.{_≡_}
 use mathlib.Core.Logic.{_↔_}

@@ -1,3 +1,4 @@
+-- SPDX-License-Identifier: BSD-2-Clause OR GPL-2.0-or-later
 -- The answer of the reading calls, and what they leave in the lent parts.
 use mathlib.Core.List.{List}
 use Prim.Native.Nat.{ℕ}

@@ -1,3 +1,4 @@
+-- SPDX-License-Identifier: BSD-2-Clause OR GPL-2.0-or-later
 -- Finding a property by name.
 use mathlib.Core.Bool.{Bool, false, cond}
 use mathlib.Core.List.{List}

@@ -1,3 +1,4 @@
+-- SPDX-License-Identifier: BSD-2-Clause OR GPL-2.0-or-later
 -- Parents and ancestors, as tests; a value of each record made from its parent's.
 use mathlib.Core.Bool.{Bool, false, cond, true}
 use mathlib.Core.List.{List}

@@ -1,3 +1,4 @@
+-- SPDX-License-Identifier: BSD-2-Clause OR GPL-2.0-or-later
 -- A board's tables (01, "The tables"): the width, the words of the node and property records, the bytes of the pool.
 use mathlib.Core.Path.{_≡_}
 use mathlib.Core.Logic.{_⊎_}

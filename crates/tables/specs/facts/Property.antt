@@ -1,3 +1,4 @@
+-- SPDX-License-Identifier: BSD-2-Clause OR GPL-2.0-or-later
 -- Properties of a record, and cells (01, "The tables").
 use mathlib.Core.Path.{_≡_}
 use mathlib.Core.Bool.{cond}

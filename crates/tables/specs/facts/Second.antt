@@ -1,3 +1,4 @@
+-- SPDX-License-Identifier: BSD-2-Clause OR GPL-2.0-or-later
 -- The second place of what is told (02, W3): which line to fix.
 use mathlib.Core.List.{List}
 use Prim.Native.Nat.{ℕ}

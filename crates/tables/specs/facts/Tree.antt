@@ -1,3 +1,4 @@
+-- SPDX-License-Identifier: BSD-2-Clause OR GPL-2.0-or-later
 -- Parents and ancestors of the records of a node table.
 use mathlib.Core.Path.{_≡_}
 use mathlib.Core.List.{List}

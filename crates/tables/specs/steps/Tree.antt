@@ -1,3 +1,4 @@
+-- SPDX-License-Identifier: BSD-2-Clause OR GPL-2.0-or-later
 -- Whether a record is another or below it.
 use mathlib.Core.Bool.{Bool, true, cond}
 use mathlib.Core.List.{List}

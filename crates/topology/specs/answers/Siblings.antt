@@ -1,3 +1,4 @@
+-- SPDX-License-Identifier: BSD-2-Clause OR GPL-2.0-or-later
 -- Rule 21 at one record: its number among its siblings.
 use mathlib.Core.Bool.{Bool, false, cond}
 use mathlib.Core.List.{List}

@@ -1,3 +1,4 @@
+-- SPDX-License-Identifier: BSD-2-Clause OR GPL-2.0-or-later
 -- What the check of rules 1 to 8 answers.
 use mathlib.Core.Bool.{cond}
 use Prim.Native.Nat.{ℕ, _*_, _%_}

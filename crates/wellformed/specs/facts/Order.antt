@@ -1,3 +1,4 @@
+-- SPDX-License-Identifier: BSD-2-Clause OR GPL-2.0-or-later
 -- The order in which broken rules are told (01, "Numbers told, in order of checking"; 36 and 37 behind 9: 02, W3; 38 and 39 behind 27: 02,
 -- W5): by stage, then place, then number.
 use mathlib.Core.List.{List, [], _∷_}

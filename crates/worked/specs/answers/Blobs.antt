@@ -1,3 +1,4 @@
+-- SPDX-License-Identifier: BSD-2-Clause OR GPL-2.0-or-later
 -- Worked blobs as two tables, and the claims that the definitions give each of their entries. A blob is written as the cells of its structure
 -- block and the bytes of its strings block.
 use mathlib.Core.List.{List, [], _∷_, _++_, map}

@@ -1,3 +1,4 @@
+// SPDX-License-Identifier: BSD-2-Clause OR GPL-2.0-or-later
 //! Time of a blob to rows, in turns: the blob call, the fast version with its
 //! rows copied to bytes and, with the feature `fdt`, the reader over libfdt.
 

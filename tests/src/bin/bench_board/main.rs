@@ -1,3 +1,4 @@
+// SPDX-License-Identifier: BSD-2-Clause OR GPL-2.0-or-later
 //! Time of a whole board: the library, the fast version and, with the feature
 //! `fdt`, a reader over libfdt that starts from a blob and knows ARM boards only.
 //! Then the blob call, beside peers that start from a blob as well.

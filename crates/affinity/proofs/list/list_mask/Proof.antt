@@ -1,3 +1,4 @@
+-- SPDX-License-Identifier: BSD-2-Clause OR GPL-2.0-or-later
 -- `list_mask` tests the length, and then the or of the list for a bit outside. Assumes nothing.
 use borrow.Author.Tests.{eq-eqb, ne-eqb, lt-ltb, not-true, not-false}
 use Rattle.affinity.specs.steps.Mask.{gathered}

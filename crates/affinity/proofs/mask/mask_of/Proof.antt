@@ -1,3 +1,4 @@
+-- SPDX-License-Identifier: BSD-2-Clause OR GPL-2.0-or-later
 -- `mask_of` is the mask that `gather` makes. Assumes nothing.
 use Rattle.affinity.specs.steps.Mask.{gathered}
 use Rattle.affinity.proofs.MaskLaws.{mask-holds}

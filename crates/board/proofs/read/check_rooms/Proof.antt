@@ -1,3 +1,4 @@
+-- SPDX-License-Identifier: BSD-2-Clause OR GPL-2.0-or-later
 -- `check_rooms` tells by the hash of the slots. Assumes nothing.
 use borrow.Author.Needs.{needs}
 use Rattle.board.proofs.read.check_rooms.Statement.{statement}

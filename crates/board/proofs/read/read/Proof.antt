@@ -1,3 +1,4 @@
+-- SPDX-License-Identifier: BSD-2-Clause OR GPL-2.0-or-later
 -- `read` surveys, checks the rooms, and writes. Assumes nothing.
 use mathlib.Core.Path.{sym}
 use lib.ListN.{length}

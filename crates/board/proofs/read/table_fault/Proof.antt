@@ -1,3 +1,4 @@
+-- SPDX-License-Identifier: BSD-2-Clause OR GPL-2.0-or-later
 -- `table_fault` tells 38 and 39 where a table is asked for. Assumes nothing.
 use borrow.Author.Needs.{needs}
 use Rattle.board.proofs.read.table_fault.Statement.{statement}

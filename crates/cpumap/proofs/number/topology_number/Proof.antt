@@ -1,3 +1,4 @@
+-- SPDX-License-Identifier: BSD-2-Clause OR GPL-2.0-or-later
 -- `topology_number` tells the number by the name. Assumes nothing.
 use borrow.Author.Needs.{needs}
 use Rattle.cpumap.proofs.number.topology_number.Statement.{statement}

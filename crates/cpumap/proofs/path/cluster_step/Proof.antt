@@ -1,3 +1,4 @@
+-- SPDX-License-Identifier: BSD-2-Clause OR GPL-2.0-or-later
 -- `cluster_step` meets its contract: a cluster extends the path. Assumes nothing.
 use borrow.Author.Needs.{needs}
 use Rattle.cpumap.proofs.path.cluster_step.Statement.{statement}

@@ -1,3 +1,4 @@
+-- SPDX-License-Identifier: BSD-2-Clause OR GPL-2.0-or-later
 -- `no_position` meets its contract: no socket and no clusters. Assumes nothing.
 use borrow.Author.Needs.{needs}
 use Rattle.cpumap.proofs.positions.no_position.Statement.{statement}

@@ -1,3 +1,4 @@
+-- SPDX-License-Identifier: BSD-2-Clause OR GPL-2.0-or-later
 -- `position_step` meets its contract: the socket and the clusters each by their step. Assumes nothing.
 use borrow.Author.Needs.{needs}
 use Rattle.cpumap.proofs.positions.position_step.Statement.{statement}

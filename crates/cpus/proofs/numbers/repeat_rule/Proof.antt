@@ -1,3 +1,4 @@
+-- SPDX-License-Identifier: BSD-2-Clause OR GPL-2.0-or-later
 -- `repeat_rule` tells the rule by what is gathered. Assumes nothing.
 use borrow.Author.Needs.{needs}
 use Rattle.cpus.proofs.numbers.repeat_rule.Statement.{statement}

@@ -1,3 +1,4 @@
+-- SPDX-License-Identifier: BSD-2-Clause OR GPL-2.0-or-later
 -- `is_number` meets its contract. Assumes nothing.
 use borrow.Author.Needs.{needs}
 use Rattle.cpus.proofs.property.is_number.Statement.{statement}

@@ -1,3 +1,4 @@
+-- SPDX-License-Identifier: BSD-2-Clause OR GPL-2.0-or-later
 -- `value_in` meets its contract: each answer is the definition's at what was found. Assumes nothing.
 use mathlib.Core.Path.{sym, ap, _∙_}
 use Rattle.cpus.specs.declared.Value.the-variants.{Number}

@@ -1,3 +1,4 @@
+-- SPDX-License-Identifier: BSD-2-Clause OR GPL-2.0-or-later
 -- `read_record` meets its contract: each answer is the definition's for what is wanted. Assumes nothing.
 use mathlib.Core.Path.{sym, _∙_}
 use Rattle.cpus.specs.answers.Numbers.{readingFrom}

@@ -1,3 +1,4 @@
+-- SPDX-License-Identifier: BSD-2-Clause OR GPL-2.0-or-later
 -- `record_check` meets its contract: a leaf and the cpu that it names, or no leaf. Assumes nothing.
 use borrow.Author.Needs.{needs}
 use Rattle.leaves.specs.answers.Check.{leafCpu, recordCheck}

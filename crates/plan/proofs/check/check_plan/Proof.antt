@@ -1,3 +1,4 @@
+-- SPDX-License-Identifier: BSD-2-Clause OR GPL-2.0-or-later
 -- `check_plan` tells what is wrong with the list, and then with the plan. Assumes nothing.
 use Rattle.plan.proofs.CheckMeans.{check-refused, check-accepted, check-meets}
 use borrow.Author.Needs.{needs}

@@ -1,3 +1,4 @@
+-- SPDX-License-Identifier: BSD-2-Clause OR GPL-2.0-or-later
 -- `plan_number` tests the positions, and then the list under them. Assumes nothing.
 use mathlib.Core.Path.{sym, _∙_}
 use Rattle.plan.specs.answers.Check.{planNumber}

@@ -1,3 +1,4 @@
+-- SPDX-License-Identifier: BSD-2-Clause OR GPL-2.0-or-later
 -- `first_property_fault` tells the lowest property that breaks 7 or 8: none below k does, each is noted for its node, and none before
 -- `at` repeats property k. Assumes nothing.
 use mathlib.Core.Path.{_≡_, refl, sym, _∙_}

@@ -1,3 +1,4 @@
+-- SPDX-License-Identifier: BSD-2-Clause OR GPL-2.0-or-later
 -- `row_of` fills a row from the leaf's name and its position. Assumes nothing.
 use mathlib.Core.Path.{ap}
 use Rattle.cpumap.specs.answers.Path.{positionOf}

@@ -1,3 +1,4 @@
+-- SPDX-License-Identifier: BSD-2-Clause OR GPL-2.0-or-later
 -- `slots_for` hashes the mask that the board has. Assumes nothing.
 use borrow.Author.Needs.{needs}
 use Rattle.rows.specs.answers.Slots.{slotsFor}

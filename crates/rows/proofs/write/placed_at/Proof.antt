@@ -1,3 +1,4 @@
+-- SPDX-License-Identifier: BSD-2-Clause OR GPL-2.0-or-later
 -- `placed_at` meets its contract: as it is known where the record is the same, or read anew. Assumes nothing.
 use mathlib.Core.Path.{sym, ap, _∙_}
 use Rattle.rows.specs.steps.Position.{placed}

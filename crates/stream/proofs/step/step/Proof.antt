@@ -1,3 +1,4 @@
+-- SPDX-License-Identifier: BSD-2-Clause OR GPL-2.0-or-later
 -- `step` meets its contract. Assumes nothing.
 use mathlib.Core.Path.{ap}
 use Rattle.stream.specs.declared.Next.the-variants.{On}

@@ -1,3 +1,4 @@
+-- SPDX-License-Identifier: BSD-2-Clause OR GPL-2.0-or-later
 -- `survey` meets its contract. The invariant: what the whole walk gives is what the rest of it gives. The measure: what is left of the block.
 -- Assumes nothing.
 use Prim.Native.Nat.{_-_}

@@ -1,3 +1,4 @@
+-- SPDX-License-Identifier: BSD-2-Clause OR GPL-2.0-or-later
 -- `put_reply` writes four words as bytes, and the rest stays. Assumes nothing.
 use mathlib.Core.List.{[], _∷_}
 use borrow.Author.Tests.{le-ltb}

@@ -1,3 +1,4 @@
+-- SPDX-License-Identifier: BSD-2-Clause OR GPL-2.0-or-later
 -- `put_flat` writes the four words, and the rest stays. Assumes nothing.
 use native.Mathlib.Omega.{arith}
 use lib.ListN.{length-set}

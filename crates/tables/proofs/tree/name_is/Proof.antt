@@ -1,3 +1,4 @@
+-- SPDX-License-Identifier: BSD-2-Clause OR GPL-2.0-or-later
 -- `name_is` compares the name of a record. Assumes nothing.
 use borrow.Author.Needs.{needs}
 use Rattle.tables.proofs.tree.name_is.Statement.{statement}

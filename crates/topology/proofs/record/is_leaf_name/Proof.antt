@@ -1,3 +1,4 @@
+-- SPDX-License-Identifier: BSD-2-Clause OR GPL-2.0-or-later
 -- `is_leaf_name` meets its contract, kind by kind. Assumes nothing.
 use borrow.Author.Needs.{needs}
 use Rattle.laws.proofs.PassLaws.{not-cond}

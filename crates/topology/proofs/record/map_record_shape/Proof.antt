@@ -1,3 +1,4 @@
+-- SPDX-License-Identifier: BSD-2-Clause OR GPL-2.0-or-later
 -- `map_record_shape` meets its contract: a fault of 19 to 23, or whether the record is a leaf. Assumes nothing.
 use borrow.Author.Needs.{needs}
 use Rattle.topology.proofs.CodeLaws.{fault-told, leaf-told}

@@ -1,3 +1,4 @@
+-- SPDX-License-Identifier: BSD-2-Clause OR GPL-2.0-or-later
 -- `cluster_fault` meets its contract: 22, or else 23. Assumes nothing.
 use borrow.Author.Needs.{needs}
 use Rattle.laws.proofs.PassLaws.{or-told, or-next}

@@ -1,3 +1,4 @@
+-- SPDX-License-Identifier: BSD-2-Clause OR GPL-2.0-or-later
 -- `has_child` meets its contract. Assumes nothing.
 use borrow.Author.Needs.{needs}
 use Rattle.topology.specs.answers.Check.{hasChild}

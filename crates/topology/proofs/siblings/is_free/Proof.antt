@@ -1,3 +1,4 @@
+-- SPDX-License-Identifier: BSD-2-Clause OR GPL-2.0-or-later
 -- `is_free` meets its contract: what is known of the records before j settles it at a child that has the number, at child number n
 -- from i on, or at the end. Assumes nothing.
 use mathlib.Core.Path.{sym, _∙_}

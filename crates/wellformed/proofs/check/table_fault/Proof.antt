@@ -1,3 +1,4 @@
+-- SPDX-License-Identifier: BSD-2-Clause OR GPL-2.0-or-later
 -- `table_fault` tells the first of rules 1 to 8 that is broken. Assumes nothing.
 use borrow.Author.Needs.{needs}
 use Rattle.wellformed.proofs.CodeStages.{shape-told, nodes-told, properties-told}

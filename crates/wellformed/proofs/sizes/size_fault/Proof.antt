@@ -1,3 +1,4 @@
+-- SPDX-License-Identifier: BSD-2-Clause OR GPL-2.0-or-later
 -- `size_fault` tells the first of rules 1 to 4 that is broken. Assumes nothing.
 use borrow.Author.Needs.{needs}
 use Rattle.wellformed.proofs.sizes.size_fault.Statement.{statement}
