@@ -51,25 +51,25 @@ $(ARCHIVE):
 	./scripts/archive.sh $(TARGET)
 
 $(COMMAND): | $(ARCHIVE)
-	SUNDERWATH_LIB_DIR="$(CURDIR)/$(FOLDER)" $(CARGO) build --offline --quiet --release \
-		--manifest-path cli/Cargo.toml --target-dir target/cli
+	$(CARGO) build --offline --quiet --release --manifest-path cli/Cargo.toml --target-dir target/cli
 
 check:
 	./scripts/test.sh
 
 # ---- what is installed, and where
 
-INSTALLED := $(LIBDIR)/libsunderwath.a $(LIBDIR)/pkgconfig/sunderwath.pc $(INCLUDEDIR)/sunderwath.h \
-	$(DATADIR)/sunderwath/sunderwath_text.c $(DOCDIR)/LICENSE $(DOCDIR)/GPL-2.0.txt
+# The files of one target, and those that all targets share.
+OF_TARGET := $(LIBDIR)/libsunderwath.a $(LIBDIR)/pkgconfig/sunderwath.pc
 ifeq ($(TARGET),riscv64)
-INSTALLED += $(LIBDIR)/rv64imac/libsunderwath.a
+OF_TARGET += $(LIBDIR)/rv64imac/libsunderwath.a $(LIBDIR)/rv64imac/pkgconfig/sunderwath.pc
 endif
 ifeq ($(TARGET),$(HOST))
-INSTALLED += $(BINDIR)/sunderwath $(MANDIR)/man1/sunderwath.1
+OF_TARGET += $(BINDIR)/sunderwath $(MANDIR)/man1/sunderwath.1 $(DATADIR)/sunderwath/schema.json
 endif
+SHARED := $(INCLUDEDIR)/sunderwath.h $(DATADIR)/sunderwath/sunderwath_text.c $(DOCDIR)/LICENSE $(DOCDIR)/GPL-2.0.txt
 
 # Folders that nothing else is installed into, the inner ones first; they go with their last file.
-OWN := $(DATADIR)/sunderwath $(DOCDIR) $(if $(filter $(TARGET),riscv64),$(LIBDIR)/rv64imac) \
+OWN := $(DATADIR)/sunderwath $(DOCDIR) $(if $(filter $(TARGET),riscv64),$(LIBDIR)/rv64imac/pkgconfig $(LIBDIR)/rv64imac) \
 	$(filter $(PREFIX)/lib/sunderwath%,$(LIBDIR)/pkgconfig $(LIBDIR) $(PREFIX)/lib/sunderwath)
 
 # A folder as the pkg-config file has it: told from the prefix where it lies below.
@@ -78,16 +78,21 @@ below = $(patsubst $(PREFIX)/%,$${prefix}/%,$(1))
 # Installs one file: MODE, SOURCE, DESTINATION
 put = $(INSTALL) -D -m $(1) $(2) "$(DESTDIR)$(3)"
 
-install: $(BUILT)
-	$(call put,644,$(ARCHIVE),$(LIBDIR)/libsunderwath.a)
-ifeq ($(TARGET),riscv64)
-	$(call put,644,$(FOLDER)/rv64imac/libsunderwath.a,$(LIBDIR)/rv64imac/libsunderwath.a)
-endif
-	$(call put,644,sunderwath.pc.in,$(LIBDIR)/pkgconfig/sunderwath.pc)
+# Installs the archive of a folder and its pkg-config file: FOLDER, LIBDIR
+define put_library
+	$(call put,644,$(1)/libsunderwath.a,$(2)/libsunderwath.a)
+	$(call put,644,sunderwath.pc.in,$(2)/pkgconfig/sunderwath.pc)
 	version=$$(./scripts/version.sh) && sed -e "/^#/d; s|@VERSION@|$$version|" \
-		-e 's|@PREFIX@|$(PREFIX)|; s|@LIBDIR@|$(call below,$(LIBDIR))|' \
+		-e 's|@PREFIX@|$(PREFIX)|; s|@LIBDIR@|$(call below,$(2))|' \
 		-e 's|@INCLUDEDIR@|$(call below,$(INCLUDEDIR))|; s|@DATADIR@|$(call below,$(DATADIR))|' \
-		sunderwath.pc.in >"$(DESTDIR)$(LIBDIR)/pkgconfig/sunderwath.pc"
+		sunderwath.pc.in >"$(DESTDIR)$(2)/pkgconfig/sunderwath.pc"
+endef
+
+install: $(BUILT)
+	$(call put_library,$(FOLDER),$(LIBDIR))
+ifeq ($(TARGET),riscv64)
+	$(call put_library,$(FOLDER)/rv64imac,$(LIBDIR)/rv64imac)
+endif
 	$(call put,644,include/sunderwath.h,$(INCLUDEDIR)/sunderwath.h)
 	$(call put,644,include/sunderwath_text.c,$(DATADIR)/sunderwath/sunderwath_text.c)
 	$(call put,644,LICENSE,$(DOCDIR)/LICENSE)
@@ -95,10 +100,15 @@ endif
 ifeq ($(TARGET),$(HOST))
 	$(call put,755,$(COMMAND),$(BINDIR)/sunderwath)
 	$(call put,644,docs/sunderwath.1,$(MANDIR)/man1/sunderwath.1)
+	$(call put,644,docs/schema.json,$(DATADIR)/sunderwath/schema.json)
 endif
 
+# What all targets share goes with the last of them.
 uninstall:
-	for file in $(INSTALLED); do rm -f "$(DESTDIR)$$file" || exit 1; done
+	for file in $(OF_TARGET); do rm -f "$(DESTDIR)$$file" || exit 1; done
+	if ! find "$(DESTDIR)$(PREFIX)/lib" -name libsunderwath.a 2>/dev/null | grep -q .; then \
+		for file in $(SHARED); do rm -f "$(DESTDIR)$$file" || exit 1; done; \
+	fi
 	for folder in $(OWN); do rmdir "$(DESTDIR)$$folder" 2>/dev/null || true; done
 
 # What was proved stays: proving all again takes minutes.

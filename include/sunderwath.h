@@ -228,6 +228,8 @@ extern "C" {
  *
  * SUNDERWATH_SLOT_STACK_BYTES is for sunderwath_slot.
  *
+ * Other processors have no archive, and none of these four is defined there.
+ *
  * Boards without long chains of records need less than the most:
  *                                                 x86-64  aarch64  riscv64
  *   read_tables, 16 and 256 cpus                  16,976   17,144   17,104
@@ -240,12 +242,12 @@ extern "C" {
 #define SUNDERWATH_FLAT_STACK_BYTES 760
 #define SUNDERWATH_BLOB_STACK_BYTES 82536
 #define SUNDERWATH_SLOT_STACK_BYTES 2184
-#elif defined(__riscv)
+#elif defined(__riscv) && __riscv_xlen == 64
 #define SUNDERWATH_STACK_BYTES 49744
 #define SUNDERWATH_FLAT_STACK_BYTES 768
 #define SUNDERWATH_BLOB_STACK_BYTES 82496
 #define SUNDERWATH_SLOT_STACK_BYTES 2160
-#else /* x86-64 */
+#elif defined(__x86_64__)
 #define SUNDERWATH_STACK_BYTES 49616
 #define SUNDERWATH_FLAT_STACK_BYTES 776
 #define SUNDERWATH_BLOB_STACK_BYTES 82384

@@ -53,19 +53,33 @@ fn archive(archives: &Path) {
     println!("cargo:rustc-link-lib=static=sunderwath");
 }
 
-/// The C compiler: CC with its options, or `cc`, or Debian's cross compiler for another processor.
+/// The C compiler with its options: CC or `cc`; for another processor TARGET_CC or Debian's cross compiler.
 fn compiler() -> Command {
-    println!("cargo:rerun-if-env-changed=CC");
     let arch = variable("CARGO_CFG_TARGET_ARCH");
-    let default = match variable("HOST").starts_with(&arch) {
-        true => "cc".to_string(),
-        false => format!("{arch}-linux-gnu-gcc"),
+    let (name, default) = match variable("HOST").starts_with(&arch) {
+        true => ("CC", "cc".to_string()),
+        false => ("TARGET_CC", format!("{arch}-linux-gnu-gcc")),
     };
-    let named = env::var("CC").unwrap_or_default();
+    println!("cargo:rerun-if-env-changed={name}");
+    let named = env::var(name).unwrap_or_default();
     let mut words = named.split_whitespace();
     let mut command = Command::new(words.next().unwrap_or(&default));
     command.args(words);
     command
+}
+
+/// As the archive for the same processor is compiled, so that the linker takes both.
+fn target_flags() -> &'static [&'static str] {
+    let target = variable("TARGET");
+    if target.starts_with("riscv64imac") {
+        &["-march=rv64imac", "-mabi=lp64", "-mcmodel=medany"]
+    } else if target.starts_with("aarch64-unknown-none") {
+        &["-mgeneral-regs-only", "-mstrict-align"]
+    } else if target.starts_with("riscv64") {
+        &["-mcmodel=medany"]
+    } else {
+        &["-fPIC"]
+    }
 }
 
 /// Compiles sunderwath_text.c, which needs no C library.
@@ -75,11 +89,10 @@ fn texts(include: &Path) {
     let object = out.join("sunderwath_text.o");
     let archive = out.join("libsunderwath_text.a");
     println!("cargo:rerun-if-changed={}", source.display());
-    let flags = ["-std=c99", "-O2", "-ffreestanding", "-fPIC"];
-    let warnings = ["-Wall", "-Wextra", "-Werror"];
+    let flags = ["-std=c99", "-O2", "-ffreestanding"];
     let mut compile = compiler();
-    compile.args(flags).args(warnings).arg("-c").arg(&source);
-    run(compile.arg("-o").arg(&object));
+    compile.args(flags).args(target_flags());
+    run(compile.arg("-c").arg(&source).arg("-o").arg(&object));
     // An archive that is there already could hold an older object.
     let _ = fs::remove_file(&archive);
     run(Command::new("ar").arg("crs").arg(&archive).arg(&object));

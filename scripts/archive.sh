@@ -86,7 +86,7 @@ progress() {
 build() {
     local words
     mkdir -p "$out/x86_64"
-    echo "proving the library, once: about two minutes on two cores"
+    echo "proving the library, once: about three minutes on two cores"
     # shellcheck disable=SC2046
     rt check $(dependencies) 2>&1 | progress "$out/check.log" || fail "not proved: see $out/check.log"
     mapfile -t words < <(externs)

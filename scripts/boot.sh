@@ -8,7 +8,7 @@
 # PROCESSORS is what QEMU's -smp takes, 4 where none is named. Exit status: 0 rows, 1 a refusal, 2 rows without the own processor's,
 # 3 an exception; 4 where something is missing.
 set -euo pipefail
-cd "$(dirname "$0")/.."
+top=$(cd "$(dirname "$(readlink -f "$0")")/.." && pwd)
 arch=${1:-aarch64} processors=${2:-4}
 case $arch in
 aarch64 | riscv64) ;;
@@ -17,7 +17,7 @@ aarch64 | riscv64) ;;
     exit 4
     ;;
 esac
-./scripts/setup.sh "$arch" || exit 4
-./scripts/archive.sh "$arch" >&2 || exit 4
-make --silent -C examples/firmware ARCH="$arch" >&2 || exit 4
-exec ./examples/firmware/run.sh "$arch" "target/firmware/$arch/firmware.elf" -smp "$processors" "${@:3}"
+"$top/scripts/setup.sh" "$arch" || exit 4
+"$top/scripts/archive.sh" "$arch" >&2 || exit 4
+make --silent -C "$top/examples/firmware" ARCH="$arch" >&2 || exit 4
+exec "$top/examples/firmware/run.sh" "$arch" "$top/target/firmware/$arch/firmware.elf" -smp "$processors" "${@:3}"

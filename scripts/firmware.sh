@@ -52,7 +52,7 @@ build() {
     aarch64-linux-gnu-objcopy -O binary "$all/aarch64/raw.elf" "$all/aarch64/raw.bin"
     gcc -std=c11 -Wall -Wextra -Werror -Iinclude examples/loader.c include/sunderwath_text.c \
         target/archive/x86_64/libsunderwath.a -o "$loader"
-    SUNDERWATH_LIB_DIR=$PWD/target/archive/x86_64 cargo build --offline --quiet --manifest-path cli/Cargo.toml --target-dir target/cli
+    cargo build --offline --quiet --manifest-path cli/Cargo.toml --target-dir target/cli
 }
 
 # Boots an image and leaves the lines of the UART in uart, without those about tree and stack. The last line has to tell the exit status,

@@ -46,8 +46,9 @@ files_of() {
     {
         printf '644 %s\n' "$lib/libsunderwath.a" "$lib/pkgconfig/sunderwath.pc" usr/include/sunderwath.h \
             usr/share/sunderwath/sunderwath_text.c usr/share/doc/sunderwath/LICENSE usr/share/doc/sunderwath/GPL-2.0.txt
-        [ "$1" != riscv64 ] || echo "644 $lib/rv64imac/libsunderwath.a"
-        [ "$1" != "$host" ] || printf '%s\n' '755 usr/bin/sunderwath' '644 usr/share/man/man1/sunderwath.1'
+        [ "$1" != riscv64 ] || printf '644 %s\n' "$lib/rv64imac/libsunderwath.a" "$lib/rv64imac/pkgconfig/sunderwath.pc"
+        [ "$1" != "$host" ] || printf '%s\n' '755 usr/bin/sunderwath' '644 usr/share/man/man1/sunderwath.1' \
+            '644 usr/share/sunderwath/schema.json'
     } | sort
 }
 
@@ -192,6 +193,16 @@ use_target() {
     same "the loader for $1" "$(expected_of_loader)" "$(run_loader "$emulator" "$work/loader-$1")"
 }
 
+# Two targets beside each other: what they share stays until the last one goes.
+side_by_side() {
+    install_for "$host"
+    make TARGET=riscv64 install DESTDIR="$root" PREFIX=/usr
+    make TARGET=riscv64 uninstall DESTDIR="$root" PREFIX=/usr
+    same "what is left of $host" "$(files_of "$host")" "$(installed)"
+    uninstall_for "$host"
+    say "riscv64 uninstalled beside $host, which stays whole"
+}
+
 # ---- Debian's own cargo
 
 # Builds one crate's programs and tests without warnings, as quickly as may be: FOLDER OPTIONS
@@ -199,7 +210,6 @@ debian_build() {
     local folder=$1
     shift
     PATH=/usr/bin:/bin RUSTFLAGS='-D warnings' CARGO_PROFILE_DEV_OPT_LEVEL=0 CARGO_PROFILE_DEV_DEBUG=0 \
-        SUNDERWATH_LIB_DIR=$PWD/target/archive/$host \
         cargo build --offline --quiet --manifest-path "$folder/Cargo.toml" --target-dir target/debian "$@"
 }
 
@@ -230,4 +240,5 @@ for target in x86_64 aarch64 riscv64; do
     uninstall_for "$target"
     say "$version installed for $target, uninstalled"
 done
+[ "$host" = riscv64 ] || side_by_side
 build_with_debian

@@ -19,7 +19,7 @@ case ${1-} in
 esac
 
 ./scripts/archive.sh x86_64
-SUNDERWATH_LIB_DIR=$PWD/target/archive/x86_64 cargo build --offline --quiet --release --manifest-path cli/Cargo.toml --target-dir target/cli
+cargo build --offline --quiet --release --manifest-path cli/Cargo.toml --target-dir target/cli
 mkdir -p "$out"
 target/cli/release/sunderwath --json "$board" >"$out/printed.json"
 python3 -B "$folder/draw.py" "$board" "$out/printed.json" "$out"

@@ -3,7 +3,7 @@
 # The version, from the macros of include/sunderwath.h: version.sh [--check]
 #
 # With --check, every other place that states a version has to state this one: the header's text, the manual page, the newest entry of
-# CHANGELOG.md, each Cargo.toml, and the lock files of Sunderwath's own crates. Each one that differs is named.
+# CHANGELOG.md, the README, each Cargo.toml, and the lock files of Sunderwath's own crates. Each one that differs is named.
 set -euo pipefail
 cd "$(dirname "$0")/.."
 header=include/sunderwath.h
@@ -39,6 +39,7 @@ esac
 agree "$header" "$(sed -nE 's/^#define SUNDERWATH_VERSION "(.*)"$/\1/p' "$header")"
 agree docs/sunderwath.1 "$(sed -nE 's/^\.TH SUNDERWATH 1 "[^"]*" "sunderwath ([^"]*)".*/\1/p' docs/sunderwath.1)"
 agree CHANGELOG.md "$(sed -nE '/^## \[/ { s/^## \[([^]]*)\].*/\1/p; q }' CHANGELOG.md)"
+agree README.md "$(sed -nE 's/^Version ([0-9.]+[0-9])\. .*/\1/p' README.md)"
 for manifest in $(find . -name Cargo.toml -not -path './target/*' -printf '%P\n' | sort); do
     agree "$manifest" "$(of_manifest "$manifest")"
     lock=${manifest%.toml}.lock

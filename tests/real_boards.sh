@@ -80,8 +80,7 @@ fetch() {
 
 build() {
     ./scripts/archive.sh x86_64 >&2
-    SUNDERWATH_LIB_DIR=$top/target/archive/x86_64 cargo build --offline --quiet --release --manifest-path cli/Cargo.toml \
-        --target-dir target/cli
+    cargo build --offline --quiet --release --manifest-path cli/Cargo.toml --target-dir target/cli
 }
 
 needed

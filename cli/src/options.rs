@@ -125,6 +125,16 @@ impl<I: Iterator<Item = OsString>> Reader<I> {
         if self.options.files.is_empty() {
             return Err("no file".to_string());
         }
+        if self
+            .options
+            .files
+            .iter()
+            .filter(|file| *file == "-")
+            .count()
+            > 1
+        {
+            return Err("standard input can be read once".to_string());
+        }
         Ok(Request::Run(self.options))
     }
 }
@@ -192,6 +202,9 @@ mod tests {
         assert_eq!(names("a -q b -"), ["a", "b", "-"]);
         assert_eq!(names("-q -- -c a -- b"), ["-c", "a", "--", "b"]);
         assert!(!options("-- -c").check);
+        let twice = "standard input can be read once".to_string();
+        assert_eq!(parsed("a - b -"), Err(twice.clone()));
+        assert_eq!(parsed("-c - -- -"), Err(twice));
         assert!(options("-c a").check && options("a --check").check && options("-jc a").check);
     }
 

@@ -9,6 +9,15 @@ pub fn complain(line: &str) {
     let _ = io::stderr().write_all(format!("{line}\n").as_bytes());
 }
 
+/// Why something failed, as other programs say it: without the error's number.
+pub fn reason(error: &io::Error) -> String {
+    let text = error.to_string();
+    match text.split_once(" (os error ") {
+        Some((words, _)) => words.to_string(),
+        None => text,
+    }
+}
+
 /// Standard output, as far as it can be written.
 #[derive(Debug, Default)]
 pub struct Printer {
@@ -38,7 +47,7 @@ impl Printer {
             self.closed = true;
             if error.kind() != io::ErrorKind::BrokenPipe {
                 self.failed = true;
-                complain(&format!("sunderwath: cannot write: {error}"));
+                complain(&format!("sunderwath: cannot write: {}", reason(&error)));
             }
         }
     }

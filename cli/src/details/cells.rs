@@ -6,13 +6,10 @@ use super::Told;
 use crate::kind::Wording;
 use sunderwath::Kind;
 
-/// The counts that a kind of board allows. ARM boards are named by their width, RISC-V has none.
+/// The counts that a kind of board allows.
 fn allowed(kind: Kind) -> String {
-    match kind {
-        Kind::Arm32 => format!("width {} allows 1", kind.number()),
-        Kind::Arm64 => format!("width {} allows 1 or 2", kind.number()),
-        Kind::Riscv => format!("board {} allows 1", kind.name()),
-    }
+    let counts = if kind == Kind::Arm64 { "1 or 2" } else { "1" };
+    format!("board {} allows {counts}", kind.name())
 }
 
 pub fn address_cells(told: &Told, property: u32) -> String {

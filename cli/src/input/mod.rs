@@ -7,6 +7,7 @@ mod source;
 
 use crate::escape;
 use crate::header::{total_size, MOST_READ};
+use crate::streams::reason;
 use std::ffi::OsStr;
 use std::fs::{self, File};
 use std::io::{self, Read};
@@ -22,7 +23,8 @@ pub fn name(file: &OsStr) -> String {
 }
 
 fn unopened(operand: &OsStr, error: &io::Error) -> String {
-    format!("Couldn't open blob from '{}': {error}", name(operand))
+    let reason = reason(error);
+    format!("Couldn't open blob from '{}': {reason}", name(operand))
 }
 
 /// The bytes of the blob that the operand names or is made into.
@@ -62,7 +64,7 @@ fn blob(mut head: Vec<u8>, from: &mut impl Read) -> io::Result<Vec<u8>> {
 
 /// Reads to the end, as a program that writes would be ended by a pipe that nobody reads.
 fn standard_input() -> Result<Vec<u8>, String> {
-    let unread = |error| format!("Couldn't read standard input: {error}");
+    let unread = |error| format!("Couldn't read standard input: {}", reason(&error));
     let mut input = io::stdin().lock();
     let head = head(&mut input).map_err(unread)?;
     if source::is_source(&head) {

@@ -258,7 +258,7 @@ const DETAILS: [(&str, &str); 19] = [
     ("refused-34-no-cpus", "it has 0"),
     (
         "refused-36-address-cells",
-        "#address-cells is 3; width 64 allows 1 or 2",
+        "#address-cells is 3; board arm64 allows 1 or 2",
     ),
     ("refused-37-size-cells", "no property #size-cells"),
 ];

@@ -62,7 +62,7 @@ fn full_standard_output() {
         let output = program().args(arguments).stdout(full()).output();
         let output = output.expect("the program starts");
         let message = text(&output.stderr);
-        let expected = "sunderwath: cannot write: No space left on device (os error 28)\n";
+        let expected = "sunderwath: cannot write: No space left on device\n";
         assert!(message.ends_with(expected), "{message}");
         assert_eq!(message.matches("cannot write").count(), 1);
         assert_eq!(output.status.code(), Some(2), "{arguments:?}");
@@ -130,19 +130,19 @@ fn unreadable_files() {
     for (operand, message) in [
         (
             &b"loop"[..],
-            "Couldn't open blob from 'loop': Too many levels of symbolic links (os error 40)\n",
+            "Couldn't open blob from 'loop': Too many levels of symbolic links\n",
         ),
         (
             b"empty.dtb/x",
-            "Couldn't open blob from 'empty.dtb/x': Not a directory (os error 20)\n",
+            "Couldn't open blob from 'empty.dtb/x': Not a directory\n",
         ),
         (
             b"",
-            "Couldn't open blob from '': No such file or directory (os error 2)\n",
+            "Couldn't open blob from '': No such file or directory\n",
         ),
         (
             b"/proc/self/mem",
-            "Couldn't open blob from '/proc/self/mem': Input/output error (os error 5)\n",
+            "Couldn't open blob from '/proc/self/mem': Input/output error\n",
         ),
     ] {
         let output = run_in(&place, &[b"-q", operand]);
@@ -157,11 +157,11 @@ fn odd_directories_and_files() {
     let place = directory("closed-odd");
     let long = "./".repeat(2046);
     let output = run_in(&place, &[long.as_bytes()]);
-    assert!(text(&output.stderr).ends_with("File name too long (os error 36)\n"));
+    assert!(text(&output.stderr).ends_with("File name too long\n"));
     assert_eq!(output.status.code(), Some(2));
     let here = File::open(&place).expect("it can be opened");
     let output = program().arg("-").stdin(here).output().expect("it starts");
-    let message = "Couldn't read standard input: Is a directory (os error 21)\n";
+    let message = "Couldn't read standard input: Is a directory\n";
     assert_eq!(
         (text(&output.stderr), output.status.code()),
         (message, Some(2))
@@ -207,5 +207,5 @@ fn long_arguments() {
         assert_eq!(text(&output.stderr).lines().count(), 2);
     }
     let output = program().arg(&long).output().expect("it starts");
-    assert!(text(&output.stderr).ends_with("File name too long (os error 36)\n"));
+    assert!(text(&output.stderr).ends_with("File name too long\n"));
 }

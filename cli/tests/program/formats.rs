@@ -109,7 +109,7 @@ fn width_decides_the_cells() {
     assert_eq!(output.status.code(), Some(1));
     let message = text(&output.stderr);
     assert!(message.contains("ERROR 36 (cpus_address_cells): /cpus: "));
-    assert!(message.ends_with(" (#address-cells is 2; width 32 allows 1)\n"));
+    assert!(message.ends_with(" (#address-cells is 2; board arm32 allows 1)\n"));
     let named = run(&["--board", "arm32", &board("example1")]);
     assert_eq!(named, output);
 }

@@ -3,10 +3,11 @@
 
 use crate::boards::names;
 use crate::run::{board, compiled, directory, run, run_in, run_on_input, text};
-use std::fs;
+use std::fs::{self, Permissions};
 use std::os::unix::ffi::OsStrExt;
-use std::os::unix::fs::symlink;
+use std::os::unix::fs::{symlink, PermissionsExt};
 use std::path::Path;
+use std::process::{Command, Output};
 use sunderwath_cli::flat;
 
 /// Makes a directory of a sample board's /cpus.
@@ -113,6 +114,46 @@ fn trees_with_errors() {
         (message.lines().count(), output.status.code()),
         (1, Some(1))
     );
+}
+
+/// The program under another user where this one is root, who can read everything.
+fn by_a_user(program: &Path, tree: &Path) -> Output {
+    let id = Command::new("id").arg("-u").output().expect("id starts");
+    let mut command = match text(&id.stdout).trim() {
+        "0" => {
+            let mut other = Command::new("setpriv");
+            other.args(["--reuid=65534", "--regid=65534", "--clear-groups"]);
+            other.arg(program);
+            other
+        }
+        _ => Command::new(program),
+    };
+    command.arg(tree).output().expect("the program starts")
+}
+
+/// A property that cannot be read is not told as missing.
+#[test]
+fn unreadable_properties() {
+    let place = std::env::temp_dir().join(format!("sunderwath-live-{}", std::process::id()));
+    let (program, tree) = (place.join("program"), place.join("tree"));
+    grown(&tree, compiled("whole-case"));
+    fs::set_permissions(&place, Permissions::from_mode(0o755)).expect("it can be entered");
+    fs::copy(env!("CARGO_BIN_EXE_sunderwath"), &program).expect("the program is copied");
+    let accepted = by_a_user(&program, &tree);
+    let property = tree.join("cpus/cpu@100/reg");
+    fs::set_permissions(&property, Permissions::from_mode(0)).expect("the mode is set");
+    let output = by_a_user(&program, &tree);
+    fs::remove_dir_all(&place).expect("the directory is removed");
+    assert_eq!(
+        accepted.status.code(),
+        Some(0),
+        "{}",
+        text(&accepted.stderr)
+    );
+    let path = property.to_str().expect("the path is text");
+    let expected = format!("Couldn't open blob from '{path}': Permission denied\n");
+    assert_eq!(text(&output.stderr), expected);
+    assert_eq!(output.status.code(), Some(2));
 }
 
 /// Any other directory is a root without cpus, and is not walked: the file in this one has no end.

@@ -28,8 +28,8 @@ fn address_cells() {
         told(board.cell("#size-cells", 0).cpu(0), 36, "/cpus", details);
     };
     let with = |value: &[u32]| bare().cells("#address-cells", value);
-    told(with(&[0]), "#address-cells is 0; width 64 allows 1 or 2");
-    told(with(&[3]), "#address-cells is 3; width 64 allows 1 or 2");
+    told(with(&[0]), "#address-cells is 0; board arm64 allows 1 or 2");
+    told(with(&[3]), "#address-cells is 3; board arm64 allows 1 or 2");
     told(with(&[1, 0]), "#address-cells has 8 bytes, not 4");
     told(with(&[]), "#address-cells has 0 bytes, not 4");
     let byte = bare().prop("#address-cells", &[1]);
@@ -45,7 +45,7 @@ fn address_cells_of_width_32() {
     let output = run_on_input(&["-w", "32", "-"], &blob);
     let expected = "-: ERROR 36 (cpus_address_cells): /cpus: \
         #address-cells must be one cell, with a value that the board allows \
-        (#address-cells is 2; width 32 allows 1)\n";
+        (#address-cells is 2; board arm32 allows 1)\n";
     assert_eq!(text(&output.stderr), expected);
 }
 

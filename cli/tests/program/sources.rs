@@ -164,7 +164,7 @@ fn without_dtc() {
         let output = run(operand, input());
         let expected = format!(
             "Couldn't run dtc (package device-tree-compiler), which '{}' needs: \
-             No such file or directory (os error 2)\n",
+             No such file or directory\n",
             operand.display()
         );
         assert_eq!(text(&output.stderr), expected);

@@ -54,8 +54,7 @@ fn bundles() {
 fn missing_files() {
     for name in ["no-such-file.dtb", "no-such-file.dts"] {
         let output = run(&[name]);
-        let expected =
-            format!("Couldn't open blob from '{name}': No such file or directory (os error 2)\n");
+        let expected = format!("Couldn't open blob from '{name}': No such file or directory\n");
         assert_eq!(text(&output.stderr), expected);
         assert_eq!((text(&output.stdout), output.status.code()), ("", Some(2)));
     }
