@@ -64,7 +64,8 @@
  *      riscv64           rv64gc, ABI lp64d, code model medany
  *      riscv64/rv64imac  rv64imac, ABI lp64, code model medany: for firmware
  *                        that is compiled so, as the linker mixes no ABIs.
- *                        Neither has a floating-point instruction.
+ *                        Neither has a floating-point instruction, and each
+ *                        access is aligned.
  *    There is none for 32-bit ARM: sizes have 64 bits in the code that is
  *    proved, and pointers there 32. Boards with such processors are read all
  *    the same (SUNDERWATH_ARM32), but on the machine that builds the firmware:
@@ -226,7 +227,8 @@ extern "C" {
  * the properties. The most is needed by the boards that SUNDERWATH_STACK_BYTES
  * speaks of.
  *
- * SUNDERWATH_SLOT_STACK_BYTES is for sunderwath_slot.
+ * SUNDERWATH_SLOT_STACK_BYTES is for sunderwath_slot. sunderwath_list_hash and
+ * sunderwath_list_slot need about 100 bytes.
  *
  * Other processors have no archive, and none of these four is defined there.
  *

@@ -5,7 +5,8 @@
 # Proves the library and writes target/archive/TARGET/libsunderwath.a, all of one module that the proved code was lowered to:
 #   x86_64   as the kit compiles it
 #   aarch64  for bare metal: general registers only, no misaligned access
-#   riscv64  rv64gc with the ABI lp64d, which runs under Linux too, and in riscv64/rv64imac/ the same for rv64imac with the ABI lp64
+#   riscv64  rv64gc with the ABI lp64d, which runs under Linux too, and in riscv64/rv64imac/ the same for rv64imac with the ABI lp64; no
+#            misaligned access
 # What has not changed since is not made again.
 set -euo pipefail
 cd "$(dirname "$0")/.."
@@ -85,6 +86,7 @@ progress() {
 # Proves and builds the library, unless that is done.
 build() {
     local words
+    rm -f "$out"/*/inputs "$module"
     mkdir -p "$out/x86_64"
     echo "proving the library, once: about three minutes on two cores"
     # shellcheck disable=SC2046
@@ -102,8 +104,8 @@ build() {
 
 # ---- other processors
 
-# The module as text for another processor: its triple, the data layout that the compiler has for it, no attribute of x86-64. RISC-V's
-# calling convention has a returned number of 32 bits extended by its sign: TRIPLE
+# The module as text for another processor: its triple, the data layout that the compiler has for it, no attribute that names a processor
+# of x86-64. RISC-V's calling convention has a returned number of 32 bits extended by its sign: TRIPLE
 module_for() {
     local extend='s/^(define [^@]*)i32 @sunderwath_/\1signext i32 @sunderwath_/'
     case $1 in riscv64*) ;; *) extend='' ;; esac
@@ -130,8 +132,8 @@ compile_for() {
     case $1 in
     aarch64) compile aarch64 aarch64-none-elf -mgeneral-regs-only -mstrict-align ;;
     riscv64)
-        compile riscv64/rv64imac riscv64-unknown-elf -march=rv64imac -mabi=lp64 -mcmodel=medany
-        compile riscv64 riscv64-unknown-elf -march=rv64gc -mabi=lp64d -mcmodel=medany
+        compile riscv64/rv64imac riscv64-unknown-elf -march=rv64imac -mabi=lp64 -mcmodel=medany -mstrict-align
+        compile riscv64 riscv64-unknown-elf -march=rv64gc -mabi=lp64d -mcmodel=medany -mstrict-align
         ;;
     esac
     echo "$sum" >"$out/$1/inputs"

@@ -2,8 +2,8 @@
 # SPDX-License-Identifier: BSD-2-Clause OR GPL-2.0-or-later
 """damage.py BLOB FOLDER: damaged variants of a devicetree blob that QEMU made for four processors.
 
-Each variant is BLOB with one fault, made in place, so that everything else stays where it was. It is written as
-FOLDER/NAME.dtb, and a line "NAME NUMBER LENT" is printed: the number of the rule that the fault breaks, 0 where the
+Each variant is BLOB with one fault, made in place, so that everything else stays where it was, or one with its two
+blocks in another order. It is written as FOLDER/NAME.dtb, and a line "NAME NUMBER LENT" is printed: the number of the rule that the fault breaks, 0 where the
 variant is accepted, and how many bytes the firmware should lend: those of the header where there is no magic, else as
 many as the header states.
 """
@@ -81,6 +81,19 @@ class Blob:
         self.put(self.props[path, name] + 8, at - strings)
 
 
+    def strings_first(self):
+        """The structure block behind the strings block, each as it was."""
+        structure, strings = self.word(STRUCTURE), self.word(STRINGS)
+        assert structure < strings
+        tokens = self.data[structure:structure + self.word(STRUCTURE_SIZE)]
+        names = self.data[strings:strings + self.word(STRINGS_SIZE)]
+        names += bytes(-len(names) % 4)
+        self.put(STRINGS, structure)
+        self.put(STRUCTURE, structure + len(names))
+        self.put(TOTAL, structure + len(names) + len(tokens))
+        self.data[structure:] = names + tokens
+
+
 def cpus(blob):
     return [path for path in blob.nodes if path.startswith("/cpus/cpu@") and path.count("/") == 2]
 
@@ -91,6 +104,7 @@ def header_faults(add):
     add("total-39", 31, lambda b: b.put(TOTAL, 39))
     add("version-16", 31, lambda b: b.put(VERSION, 16))
     add("compatible-18", 31, lambda b: b.put(COMPATIBLE, 18))
+    add("strings-first", 0, Blob.strings_first)
     add("structure-odd", 32, lambda b: b.add(STRUCTURE, 2))
     add("structure-size-odd", 32, lambda b: b.add(STRUCTURE_SIZE, -2))
     add("structure-far", 32, lambda b: b.put(STRUCTURE, 0xFFFFFFFC))
@@ -152,7 +166,7 @@ def main():
     def add(name, number, edit):
         blob = Blob(whole)
         edit(blob)
-        assert blob.data != sound.data and len(blob.data) == len(sound.data), name
+        assert blob.data != sound.data, name
         with open(f"{folder}/{name}.dtb", "wb") as file:
             file.write(blob.data)
         print(name, number, blob.word(TOTAL) if blob.word(0) == MAGIC else HEADER_BYTES)

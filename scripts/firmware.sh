@@ -7,7 +7,7 @@
 #   - damaged trees that QEMU hands over (-dtb)
 #   - damaged blobs in memory, and the boards of boards/, read by the same objects linked with another address
 #   - no tree at all, an address that is no memory, an entry at another exception level
-# The two architectures are booted side by side. Where the archives are made already it takes about 20 seconds.
+# The two architectures are booted side by side. Where the archives are made already it takes about half a minute.
 set -euo pipefail
 cd "$(dirname "$0")/.."
 all=target/firmware/test
@@ -32,8 +32,8 @@ fail() {
 image() {
     local arch=$1 name=$2
     shift 2
-    make --silent -C examples/firmware ARCH="$arch" "$@"
-    cp "target/firmware/$arch/firmware.elf" "$all/$arch/$name.elf"
+    make --silent -C examples/firmware ARCH="$arch" OUT="$PWD/$all/$arch/objects" "$@"
+    cp "$all/$arch/objects/firmware.elf" "$all/$arch/$name.elf"
 }
 
 build() {
@@ -48,6 +48,8 @@ build() {
         image "$arch" machine
     done
     image riscv64 hart-2 LINK=-Wl,--defsym,boot_hart=2
+    image aarch64 mpidr-0x3 LINK=-Wl,--defsym,boot_mpidr=0x3
+    image aarch64 mpidr-0x100 LINK=-Wl,--defsym,boot_mpidr=0x100
     image aarch64 raw LINK=-Wl,--defsym,image_start=0x40080000
     aarch64-linux-gnu-objcopy -O binary "$all/aarch64/raw.elf" "$all/aarch64/raw.bin"
     gcc -std=c11 -Wall -Wextra -Werror -Iinclude examples/loader.c include/sunderwath_text.c \
@@ -228,12 +230,17 @@ sample_boards() {
     done
 }
 
-# What a copy is made of: 1 MiB whose strings block ends in a name that is needed, and 1 MiB whose blocks are too long. Then no tree.
+# What a copy is made of: 1 MiB whose strings block ends in a name that is needed, 1 MiB with its structure behind its strings, and 1 MiB
+# whose blocks are too long. Then no tree.
 copies() {
     grow "$out/whole-case.dtb" "$out/grown.dtb"
     boot_lent "boards/whole-case, 1 MiB" "$out/grown.dtb"
     same "$out/grown.dtb" "$out/whole-case.dtb" 0
     lends "$(stat -c %s "$out/whole-case.dtb")"
+    grow "$out/strings-first.dtb" "$out/grown.dtb"
+    boot_lent "strings-first, 1 MiB" "$out/grown.dtb"
+    same "$out/grown.dtb" "$out/strings-first.dtb" 0
+    lends "$(stat -c %s "$out/strings-first.dtb")"
     grow "$out/structure-far.dtb" "$out/far.dtb"
     boot_lent "structure-far, 1 MiB" "$out/far.dtb"
     same_as_loader "$out/far.dtb" 31
@@ -280,6 +287,14 @@ deepest() {
     echo "firmware: $title: $used bytes of stack"
 }
 
+# Another processor than the first goes on, and has to find its own row: PROCESSORS MPIDR ROW
+own_row() {
+    dump -smp "$1"
+    boot "$2 goes on, -smp $1" "mpidr-$2.elf" -smp "$1"
+    same "$out/tree.dtb" "$out/packed.dtb" 0 "$2"
+    grep -q "^own: mpidr $2, row $3, slot $3\$" "$out/uart" || fail "$title: it has not found its row"
+}
+
 on_aarch64() {
     local smp
     for smp in 1 4 8 4,sockets=4 4,clusters=2,cores=2 8,sockets=1,clusters=2,cores=4 8,sockets=2,clusters=2,cores=1,threads=2 17 128; do
@@ -287,6 +302,8 @@ on_aarch64() {
     done
     shape 0 -smp 4 -cpu max
     shape 0 -smp 1 -semihosting-config enable=off
+    own_row 4 0x3 3
+    own_row 17 0x100 16
     shape 15 -smp 4 -M virt-6.1
     too_large 35 -smp 256
     dump -smp 4

@@ -3,8 +3,9 @@
 # What firmware links with: symbols.sh [ARCHIVE SYMBOL...] (the archive for x86-64, which needs memset, where none is named)
 #
 # The archive is one object that needs these symbols alone, has no data and no bss, and exports the calls of the header and nothing else.
-# On aarch64 and riscv64 no instruction of it needs a unit for floats or vectors, and on riscv64 each call extends the number that it
-# returns by its sign, as the calling convention there has it. The texts beside the archive need nothing.
+# It has no absolute address in it, so that it can be part of a program that is loaded anywhere. On aarch64 and riscv64 no instruction of it
+# needs a unit for floats or vectors, and on riscv64 each call extends the number that it returns by its sign, as the calling convention
+# there has it. The texts beside the archive need nothing.
 set -euo pipefail
 cd "$(dirname "$0")/.."
 [ $# -gt 0 ] || set -- target/archive/x86_64/libsunderwath.a memset
@@ -48,6 +49,12 @@ instructions() {
 of_vectors() { instructions "$@" | grep -E '[[:space:],{[][bhsdqv][0-9]+([],.}[:space:]]|$)' || true; }
 of_floats() { instructions "$@" | grep -E '^(c\.)?f' | grep -vE '^fence' || true; }
 
+# Relocations that put an absolute address into code or data, besides those of debugging: TOOLS FILE
+absolute() {
+    "$1readelf" -rW "$2" | awk '/^Relocation section/ { debug = /debug|eh_frame/ } !debug { print $3 }' |
+        grep -E '^R_(X86_64_(64|32|32S)|AARCH64_ABS(64|32|16)|RISCV_(64|32|HI20))$' | sort -u || true
+}
+
 # The calls of a module that return a number extended by its sign: FILE
 extended() { sed -nE 's/^define .*signext i32 @(sunderwath_[a-z0-9_]+)\(.*/\1/p' "$1" | sort -u; }
 
@@ -67,6 +74,7 @@ same "members" 1 "$("${tools}ar" t "$archive" | wc -l)"
 same "symbols that it needs" "$may_need" "$(needed "$tools" "$archive")"
 same "symbols that it offers" "$calls" "$(offered "$tools" "$archive")"
 same "bytes that are written" "0 data, 0 bss" "$(writable "$tools" "$archive")"
+same "relocations to absolute addresses" "" "$(absolute "$tools" "$archive")"
 case $machine in
 AArch64) same "instructions on registers of floats or vectors" "" "$(of_vectors "$tools" "$archive")" ;;
 RISC-V)

@@ -11,6 +11,9 @@ if ! command -v rt >/dev/null; then
     exit 2
 fi
 
+# Who cannot install packages learns now which are missing.
+[ "$(id -u)" -eq 0 ] || ./scripts/setup.sh test
+
 # Says how long a part took, and starts the clock of the next.
 took() {
     echo "-- $SECONDS s: $1"

@@ -79,6 +79,11 @@ _Noreturn void machine_leave(uint32_t status)
         ;
     semihosting(SYS_EXIT_EXTENDED, block);
     hypervisor(PSCI_SYSTEM_OFF);
+    machine_stop();
+}
+
+_Noreturn void machine_stop(void)
+{
     for (;;)
         __asm__ volatile("wfi");
 }

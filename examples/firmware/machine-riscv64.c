@@ -53,6 +53,11 @@ _Noreturn void machine_leave(uint32_t status)
     while (!(UART_STATUS & STATUS_IDLE))
         ;
     TEST = status ? status << 16 | TEST_FAIL : TEST_PASS;
+    machine_stop();
+}
+
+_Noreturn void machine_stop(void)
+{
     for (;;)
         __asm__ volatile("wfi");
 }

@@ -32,4 +32,7 @@ uint64_t machine_own_id(void);
 /* Ends the run. Where nobody takes the status, the processor stands still. */
 _Noreturn void machine_leave(uint32_t status);
 
+/* Stands still. */
+_Noreturn void machine_stop(void);
+
 #endif /* MACHINE_H */

@@ -6,6 +6,7 @@
  * slots are printed and the row of the processor that runs this, or what is wrong and where; then
  * the run ends. There is no layout to fall back to, as none would be known to be true.
  */
+#include <stdbool.h>
 #include <stddef.h>
 #include <stdint.h>
 
@@ -30,9 +31,13 @@ _Noreturn void trapped(uint64_t cause, uint64_t pc, uint64_t address);
 /* A tree to be read instead of the machine's, for tests: a symbol of the linker, 0 for none. */
 extern const uint64_t tree_instead;
 
+/* Whether the run is ending. */
+static bool ending;
+
 /* The last line, without which the text is not whole. */
 static _Noreturn void end(enum status status)
 {
+    ending = true;
     put_text("# stack used: ");
     put_number(stack_used());
     put_text(" of ");
@@ -124,9 +129,11 @@ _Noreturn void firmware(uint64_t handed_over)
     end(read_tree(tree));
 }
 
-/* Any exception. */
+/* Any exception. Where the machine has no way out, leaving is one, and all has been told. */
 _Noreturn void trapped(uint64_t cause, uint64_t pc, uint64_t address)
 {
+    if (ending)
+        machine_stop();
     put_text("\nTRAP: cause ");
     put_hex(cause);
     put_text(", pc ");

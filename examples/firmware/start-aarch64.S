@@ -3,19 +3,22 @@
  * start-aarch64.S - start-up on QEMU's virt machine, aarch64
  *
  * QEMU enters at EL1 on processor 0 alone, with the MMU off; the others are off until PSCI starts
- * them. x0 is kept for C: the devicetree's address, or 0.
+ * them. One processor goes on, the one whose id is boot_mpidr; where that is not 0, processor 0 has
+ * PSCI start it. x0 is kept for C: the devicetree's address, or 0.
  */
         .section .text.start, "ax"
         .globl  _start
 _start:
         msr     daifset, #15
-        mrs     x1, mpidr_el1           // where all processors enter, one goes on: the one of id 0
-        ldr     x2, =0xff00ffffff
-        tst     x1, x2
-        b.ne    stand_still
-
         ldr     x1, =vectors
         msr     vbar_el1, x1
+        mrs     x1, mpidr_el1
+        and     x1, x1, #0xffffffffff   // the affinity bits: 39..32 and 23..0
+        and     x1, x1, #0xffffffff00ffffff
+        ldr     x2, =boot_mpidr
+        cmp     x1, x2
+        b.ne    another
+
         mrs     x1, sctlr_el1
         orr     x1, x1, #2              // A: misaligned accesses trap, as they do on hardware with the MMU off
         msr     sctlr_el1, x1
@@ -32,6 +35,14 @@ _start:
         bl      fill
         mov     sp, x2
         bl      firmware                // does not return
+
+another:
+        cbnz    x1, stand_still
+        mov     x3, x0                  // what it will have in x0
+        mov     x1, x2
+        ldr     x2, =_start
+        ldr     x0, =0xc4000003         // CPU_ON
+        hvc     #0
 
 stand_still:
         wfi

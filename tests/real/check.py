@@ -4,7 +4,7 @@
 import subprocess
 
 # Told before the map is looked for; a board with one of them may have a map or not.
-BEFORE_THE_MAP = {9, 10, 11, 12, 13, 31, 32, 33, 35, 36, 37}
+BEFORE_THE_MAP = {5, 7, 8, 9, 10, 11, 12, 13, 31, 32, 33, 35, 36, 37}
 
 # Where Linux has the four affinity levels of an MPIDR.
 LEVELS = (0, 8, 16, 32)

@@ -16,6 +16,9 @@ const NONE: u32 = u32::MAX;
 const FOUND: u32 = 1;
 const MISSING: u32 = 0;
 
+/// The fewest boards that the calls have to read.
+const FEWEST_BOARDS: usize = 10_000;
+
 #[derive(Default)]
 pub struct Tally(BTreeMap<(Call, u32), usize>);
 
@@ -101,6 +104,11 @@ impl Tally {
         }
         if all != of_header() {
             faults.push(format!("told {all:?}, in the header {:?}", of_header()));
+        }
+        let readers = [Call::ReadTables, Call::ReadTablesSlots, Call::ReadBlob];
+        let boards: usize = readers.iter().map(|&call| self.calls(call)).sum();
+        if boards < FEWEST_BOARDS {
+            faults.push(format!("{boards} boards, and not {FEWEST_BOARDS} or more"));
         }
         faults
     }
