@@ -88,7 +88,7 @@ build() {
     local words
     rm -f "$out"/*/inputs "$module"
     mkdir -p "$out/x86_64"
-    echo "proving the library, once: about three minutes on two cores"
+    echo "proving the library, once: about four minutes on two cores"
     # shellcheck disable=SC2046
     rt check $(dependencies) 2>&1 | progress "$out/check.log" || fail "not proved: see $out/check.log"
     mapfile -t words < <(externs)
