@@ -123,7 +123,8 @@ compile() {
     mkdir -p "$folder"
     rm -f "$folder/libsunderwath.a"
     module_for "$triple" >"$folder/module.ll"
-    "$clang" --target="$triple" "$@" -Wno-override-module -ffunction-sections -fdata-sections -O3 -c -x ir "$folder/module.ll" -o "$folder/sunderwath.o"
+    "$clang" --target="$triple" "$@" -Wno-override-module -ffunction-sections -fdata-sections -O3 -c -x ir "$folder/module.ll" \
+        -o "$folder/sunderwath.o"
     "$own/toolchain/bin/llvm-ar" crsD "$folder/libsunderwath.a" "$folder/sunderwath.o"
     rm "$folder/sunderwath.o"
 }

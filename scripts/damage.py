@@ -2,10 +2,10 @@
 # SPDX-License-Identifier: BSD-2-Clause OR GPL-2.0-or-later
 """damage.py BLOB FOLDER: damaged variants of a devicetree blob that QEMU made for four processors.
 
-Each variant is BLOB with one fault, made in place, so that everything else stays where it was, or one with its two
-blocks in another order. It is written as FOLDER/NAME.dtb, and a line "NAME NUMBER LENT" is printed: the number of the rule that the fault breaks, 0 where the
-variant is accepted, and how many bytes the firmware should lend: those of the header where there is no magic, else as
-many as the header states.
+Each variant is BLOB with one fault, made in place, so that everything else stays where it was, or with its two blocks
+in another order. It is written as FOLDER/NAME.dtb, and a line "NAME NUMBER LENT" is printed: the number of the rule that
+the fault breaks, 0 where the variant is accepted, and how many bytes the firmware should lend: those of the header where
+there is no magic, else as many as the header states.
 """
 import struct
 import sys

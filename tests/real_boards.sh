@@ -39,7 +39,8 @@ kernel_of() {
 
 # The mirror of Debian's main archive that the machine's own apt has.
 machine_mirror() {
-    apt-get indextargets --format '$(REPO_URI) $(ORIGIN) $(LABEL)' 'Created-By: Packages' 2>/dev/null | sed -n 's/ Debian Debian$//p' | head -n 1
+    apt-get indextargets --format '$(REPO_URI) $(ORIGIN) $(LABEL)' 'Created-By: Packages' 2>/dev/null |
+        sed -n 's/ Debian Debian$//p' | head -n 1
 }
 
 # An apt directory of its own, with what was configured for the machine (a proxy, say) and without its hooks: ARCHITECTURE SUITE FOLDER

@@ -46,8 +46,8 @@
 //! # Building
 //!
 //! `scripts/archive.sh` writes the archive where the build looks for it; `SUNDERWATH_LIB_DIR` names another folder by its full
-//! path. A C compiler (`CC`, or else `cc`; for another processor `TARGET_CC`) compiles the texts of the rules. Firmware takes the crate without its feature `std`;
-//! it needs no heap, and `memset` and `memcpy`, which `compiler_builtins` has.
+//! path. A C compiler (`CC`, or else `cc`; for another processor `TARGET_CC`) compiles the texts of the rules. Firmware takes the
+//! crate without its feature `std`; it needs no heap, and `memset` and `memcpy`, which `compiler_builtins` has.
 
 #![no_std]
 #![warn(missing_docs)]
