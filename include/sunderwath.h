@@ -7,7 +7,9 @@
  * processor: its place in the map, its MPIDR and its slot in a collision-free
  * hash of all MPIDRs; on a RISC-V board its place and its hart id, as there are
  * no MPIDRs and no slots. Beside the rows it can fill a table from slot to row.
- * It fills the tables of a /cpus subtree from a flattened devicetree, too.
+ * It fills the tables of a /cpus subtree from a flattened devicetree, too. For
+ * a list of MPIDRs it makes and checks plans: bit positions that tell them
+ * apart, where it can be in fewer slots than the hash has.
  *
  * A loader that has the blob and a buffer of bytes needs two calls only:
  * sunderwath_read_blob makes rows of a blob, sunderwath_slot tells the slot of
@@ -23,8 +25,8 @@
  *    not NULL, even where the count is 0. Bytes need no alignment.
  *  - The parts that are written (rows, answer; for read_tables_slots the table
  *    of slots besides; for read_flat the two tables and the answer; for slot
- *    the answer) overlap no other part that is lent to the same call. Parts
- *    that are only read may overlap each other.
+ *    and the calls on lists and plans the answer) overlap no other part that is
+ *    lent to the same call. Parts that are only read may overlap each other.
  *  - No other thread changes a lent part during the call. The library keeps no
  *    state and no pointer after it returns.
  *
@@ -32,9 +34,10 @@
  *
  *  - The number told is returned, and is word 0 of the answer too.
  *  - With fewer words of answer than stated (SUNDERWATH_ANSWER_WORDS, for
- *    read_flat SUNDERWATH_FLAT_ANSWER_WORDS), nothing is written at all and
- *    SUNDERWATH_ANSWER_SPACE is returned, before any other check. For read_blob
- *    and slot the same holds of bytes (SUNDERWATH_BYTES_ANSWER).
+ *    read_flat SUNDERWATH_FLAT_ANSWER_WORDS, for the calls on plans
+ *    SUNDERWATH_PLAN_CHECK_ANSWER_WORDS and its kin), nothing is written at all
+ *    and SUNDERWATH_ANSWER_SPACE is returned, before any other check. For
+ *    read_blob and slot the same holds of bytes (SUNDERWATH_BYTES_ANSWER).
  *  - Otherwise exactly the stated words or bytes of the answer are written.
  *  - Rows are written on acceptance only: 12 words for each processor from
  *    word 0; by read_blob 48 bytes from byte 0. Everything behind the last row
@@ -152,6 +155,20 @@ extern "C" {
 #define SUNDERWATH_BYTES_SECOND 8 /* property record or NO_PROPERTY */
 #define SUNDERWATH_BYTES_COUNT 12 /* processors; for slot the slot */
 
+/* Words of the answers of the three calls on plans, which have no second place.
+ * Number and place are those of every answer; in a refusal all other words are
+ * 0. */
+#define SUNDERWATH_PLAN_CHECK_ANSWER_WORDS 2
+#define SUNDERWATH_PLAN_SLOT_ANSWER_WORDS 3
+#define SUNDERWATH_PLAN_MAKE_ANSWER_WORDS 35
+
+/* Positions of their further words: of plan_slot the slot; of plan_make the
+ * number of positions, and the first of 32 words that have the positions,
+ * rising, and 0 behind them. */
+#define SUNDERWATH_PLAN_ANSWER_SLOT 2
+#define SUNDERWATH_PLAN_ANSWER_LENGTH 2
+#define SUNDERWATH_PLAN_ANSWER_FIRST 3
+
 /* Words of a row, and the bytes of a row that sunderwath_read_blob writes. */
 #define SUNDERWATH_ROW_WORDS 12
 #define SUNDERWATH_ROW_BYTES (4 * SUNDERWATH_ROW_WORDS)
@@ -192,7 +209,7 @@ extern "C" {
 
 /* Limits: bytes of a blob, records, bytes of a pool, cpu nodes; bits of a hash
  * that has a table of slots, and the entries of a table with room for each such
- * hash. */
+ * hash; positions of a plan, one for each affinity bit. */
 #define SUNDERWATH_MAX_BLOB 65536
 #define SUNDERWATH_MAX_NODES 1024
 #define SUNDERWATH_MAX_PROPERTIES 4096
@@ -200,6 +217,7 @@ extern "C" {
 #define SUNDERWATH_MAX_CPUS 256
 #define SUNDERWATH_MAX_TABLE_BITS 12
 #define SUNDERWATH_MAX_TABLE (1u << SUNDERWATH_MAX_TABLE_BITS) /* 4,096 */
+#define SUNDERWATH_MAX_PLAN 32
 
 /* Records of the /cpus subtree that sunderwath_read_blob has room for: its
  * tables are on the stack. */
@@ -230,7 +248,10 @@ extern "C" {
  * SUNDERWATH_SLOT_STACK_BYTES is for sunderwath_slot. sunderwath_list_hash and
  * sunderwath_list_slot need about 100 bytes.
  *
- * Other processors have no archive, and none of these four is defined there.
+ * SUNDERWATH_PLAN_STACK_BYTES is for each of the three calls on plans, whatever
+ * the list and the plan.
+ *
+ * Other processors have no archive, and none of these five is defined there.
  *
  * Boards without long chains of records need less than the most:
  *                                                 x86-64  aarch64  riscv64
@@ -244,16 +265,19 @@ extern "C" {
 #define SUNDERWATH_FLAT_STACK_BYTES 760
 #define SUNDERWATH_BLOB_STACK_BYTES 82536
 #define SUNDERWATH_SLOT_STACK_BYTES 2184
+#define SUNDERWATH_PLAN_STACK_BYTES 176
 #elif defined(__riscv) && __riscv_xlen == 64
 #define SUNDERWATH_STACK_BYTES 49744
 #define SUNDERWATH_FLAT_STACK_BYTES 768
 #define SUNDERWATH_BLOB_STACK_BYTES 82496
 #define SUNDERWATH_SLOT_STACK_BYTES 2160
+#define SUNDERWATH_PLAN_STACK_BYTES 224
 #elif defined(__x86_64__)
 #define SUNDERWATH_STACK_BYTES 49616
 #define SUNDERWATH_FLAT_STACK_BYTES 776
 #define SUNDERWATH_BLOB_STACK_BYTES 82384
 #define SUNDERWATH_SLOT_STACK_BYTES 2184
+#define SUNDERWATH_PLAN_STACK_BYTES 160
 #endif
 
 /*
@@ -367,6 +391,10 @@ enum sunderwath_number {
     SUNDERWATH_LIST_LENGTH = 28,
     /* bit outside 39..32 and 23..0; index */
     SUNDERWATH_LIST_MPIDR = 29,
+    /* positions of a plan that do not rise strictly, that are outside 39..32
+     * and 23..0, or at none of which some two different MPIDRs of the list
+     * differ (told by sunderwath_plan_check and sunderwath_plan_slot); 0 */
+    SUNDERWATH_PLAN_POSITIONS = 40,
     /* asked MPIDR is not in the list; 0 */
     SUNDERWATH_LIST_UNKNOWN = 30,
 
@@ -393,6 +421,59 @@ uint32_t sunderwath_list_hash(const uint64_t *list, size_t n,
  */
 uint32_t sunderwath_list_slot(uint64_t mpidr, const uint64_t *list, size_t n,
                               uint32_t *answer, size_t a);
+
+/*
+ * Plans. In each affinity level the hash has room for every bit from the lowest
+ * to the highest in which MPIDRs differ, for those between, too: 0x0 and 0x5
+ * get three bits and eight slots. A plan names the bits to keep: positions,
+ * strictly rising, from 0 to 23 and 32 to 39; there may be none. It is a plan
+ * for a list if any two different MPIDRs of the list differ at one of its
+ * positions. The slot under a plan is the bits at the positions, the lowest
+ * position in bit 0; so different MPIDRs of the list get different slots, each
+ * below 2^positions_n. For 0x0 and 0x5 position 2 alone is a plan, with the
+ * slots 0 and 1. A list whose MPIDRs are all equal needs no position (the
+ * pointer is not NULL even then), and the slot is 0. The slots of list_slot,
+ * slot and the rows are those of the hash, whatever plans there are.
+ *
+ * A plan is all that firmware has to keep beside the list: it can be made by
+ * any program, on any machine, and is checked where it is used. A count of
+ * positions that comes with it is to be compared with SUNDERWATH_MAX_PLAN
+ * first, as the calls believe it. examples/plan_slots.c does all of this.
+ */
+
+/*
+ * Whether positions are a plan for a list of 1 to 256 MPIDRs, repeats allowed.
+ * Tells 28, 29 or 40. Compares each pair of MPIDRs at most once: with 256 of
+ * them 32,640 comparisons.
+ */
+uint32_t sunderwath_plan_check(const uint64_t *list, size_t list_n,
+                               const uint32_t *positions, size_t positions_n,
+                               uint32_t *answer, size_t answer_n);
+
+/*
+ * The slot of one MPIDR of a list under a plan for the list, which is checked
+ * first, with all comparisons that sunderwath_plan_check makes. Tells 28, 29,
+ * 40 or 30. Word 2 of the answer is the slot. Of the register's value `mpidr`
+ * is the affinity bits alone (and with 0xFF00FFFFFF): with any other bit it is
+ * not in the list, and 30 is told.
+ */
+uint32_t sunderwath_plan_slot(uint64_t mpidr,
+                              const uint64_t *list, size_t list_n,
+                              const uint32_t *positions, size_t positions_n,
+                              uint32_t *answer, size_t answer_n);
+
+/*
+ * Makes a plan for a list: of the bits in which any two MPIDRs differ it drops
+ * each that it can, from the lowest up. Tells 28 or 29. Word 2 of the answer is
+ * the number of positions, and from word 3 on they stand, rising; the words
+ * behind them, up to 35 in all, are 0. The plan is one that
+ * sunderwath_plan_check accepts, it has no more positions than the hash has
+ * bits, and no single position can be dropped from it. There may be a plan with
+ * fewer positions, not all of them among these. At most 32 times the
+ * comparisons of sunderwath_plan_check are made.
+ */
+uint32_t sunderwath_plan_make(const uint64_t *list, size_t list_n,
+                              uint32_t *answer, size_t answer_n);
 
 /*
  * Reads a flattened devicetree (version 17, at most SUNDERWATH_MAX_BLOB bytes)

@@ -54,6 +54,7 @@ static const struct message messages[] = {
     { SUNDERWATH_CPUS_SIZE_CELLS, "cpus_size_cells", "#size-cells must be one cell, with the value 0" },
     { SUNDERWATH_SLOT_TABLE_BITS, "slot_table_bits", "the hash has more than 12 bits, too many for a table of slots" },
     { SUNDERWATH_SLOT_TABLE_SPACE, "slot_table_space", "the table of slots is too short for the hash" },
+    { SUNDERWATH_PLAN_POSITIONS, "plan_positions", "the positions must rise within bits 23..0 and 39..32, and tell different MPIDRs apart" },
     { SUNDERWATH_ANSWER_SPACE, "answer_space", "the answer is shorter than stated" }
 };
 

@@ -24,7 +24,7 @@ cargo_test() {
 # Builds the examples in C, and compares what all of them print with what is expected.
 run_examples() {
     local name
-    for name in read_board read_flat wake_slot; do
+    for name in read_board read_flat wake_slot plan_slots; do
         gcc -std=c11 "${strict[@]}" "examples/$name.c" "$archive" -o "target/c/$name"
     done
     gcc -std=c11 "${strict[@]}" examples/loader.c include/sunderwath_text.c "$archive" -o target/c/loader
@@ -36,6 +36,7 @@ run_examples() {
         cargo run --offline --quiet --manifest-path rust/Cargo.toml --target-dir target/rust --example list_slots
         target/c/read_flat target/c/whole-case.dtb
         target/c/wake_slot
+        target/c/plan_slots
         target/c/loader target/c/whole-case.dtb
         target/c/loader target/c/refused.dtb 2>&1 || echo "exit status $?"
         target/c/read_flat target/c/hifive.dtb 5
@@ -60,7 +61,7 @@ cargo_test cli
 took
 
 echo "== C: calls through include/sunderwath.h, and the stack that reading needs"
-for name in list_test board_test slots_test flat_test loader_test stack_test; do
+for name in list_test plan_test board_test slots_test flat_test loader_test stack_test; do
     gcc -std=c11 "${strict[@]}" "tests/c/$name.c" "$archive" -o "target/c/$name"
     "target/c/$name"
 done
@@ -77,7 +78,7 @@ run_examples
 took
 
 echo "== C under valgrind"
-for name in board_test slots_test flat_test loader_test; do
+for name in plan_test board_test slots_test flat_test loader_test; do
     valgrind --quiet --error-exitcode=1 "target/c/$name" >/dev/null
 done
 valgrind --quiet --error-exitcode=1 target/c/loader target/c/whole-case.dtb >/dev/null

@@ -88,13 +88,13 @@ marked() {
 c_tests() {
     local target=$1 archive=$2 cross=$3 runner=$4 name log
     start
-    for name in list_test board_test slots_test flat_test loader_test stack_test; do
+    for name in list_test plan_test board_test slots_test flat_test loader_test stack_test; do
         log=target/c/$name.$target.log
         "$cross" "${strict[@]}" -static "tests/c/$name.c" "$archive" -o "target/c/$name.$target"
         "$runner" "target/c/$name.$target" >"$log" 2>&1 || { cat "$log"; fail "$target: $name fails"; }
     done
     sed -nE "s/^largest ([0-9]+) bytes, (SUNDERWATH_[A-Z_]+) .*/$target: \\2 \\1/p" "$log" | sort -k2,2 -k3,3nr | sort -s -u -k2,2
-    echo "$target: list_test board_test slots_test flat_test loader_test stack_test pass, $(took)"
+    echo "$target: list_test plan_test board_test slots_test flat_test loader_test stack_test pass, $(took)"
 }
 
 # ---- all of it

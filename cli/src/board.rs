@@ -1,6 +1,7 @@
 // SPDX-License-Identifier: BSD-2-Clause OR GPL-2.0-or-later
-//! Reads the tables of a board: its rows, or the row of each slot.
+//! Reads the tables of a board: its rows, with or without a plan, or the row of each slot.
 
+use crate::plan::Planned;
 use crate::tables::Tables;
 use sunderwath::{Hash, Kind, Refusal, Row, GAP, MAX_CPUS, MAX_TABLE, ROW_WORDS};
 
@@ -13,6 +14,8 @@ pub struct Board {
     pub kind: Kind,
     pub hash: Hash,
     pub rows: Vec<Row>,
+    /// The plan, where one was asked for.
+    pub planned: Option<Planned>,
 }
 
 impl Board {
@@ -21,7 +24,17 @@ impl Board {
             kind: board.kind,
             hash: board.hash,
             rows: board.rows(words).collect(),
+            planned: None,
         }
+    }
+
+    /// With a plan for its MPIDRs. The library refuses none to a board that it accepts.
+    fn planned(mut self) -> Result<Self, Refusal> {
+        self.planned = Some(match self.kind.has_mpidrs() {
+            true => Planned::of_mpidrs(&self.rows)?,
+            false => Planned::of_harts(&self.rows),
+        });
+        Ok(self)
     }
 }
 
@@ -30,6 +43,11 @@ pub fn read(kind: Kind, tables: &Tables) -> Result<Board, Refusal> {
     let mut words = vec![0; MOST_WORDS];
     let board = sunderwath::read_tables(kind, tables.lent(), &mut words)?;
     Ok(Board::of(&board, &words))
+}
+
+/// The same, with a plan.
+pub fn read_planned(kind: Kind, tables: &Tables) -> Result<Board, Refusal> {
+    read(kind, tables)?.planned()
 }
 
 /// The same, slot after slot: the row of the processor that has it.

@@ -19,6 +19,8 @@ a live tree (/proc/device-tree), or - for a blob or a source on standard input.
                  print the cpu-map as a tree, indented or with lines; by
                  default with lines on a terminal that has UTF-8
   -s, --slots    print each slot and the processor that has it, - for none
+      --plan     with a table, -p or -j: print a plan for fewer slots, too: bit
+                 positions that tell the MPIDRs apart, and each slot under it
   -q, --quiet    print no note, and no message when a board is refused
   -h, --help     print this help
   -V, --version  print the version

@@ -17,6 +17,7 @@ pub mod kind;
 pub mod layout;
 pub mod options;
 pub mod output;
+pub mod plan;
 pub mod program;
 pub mod report;
 pub mod status;

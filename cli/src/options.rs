@@ -31,6 +31,8 @@ pub struct Options {
     /// The kind of board that was asked for, if any.
     pub board: Option<Kind>,
     pub format: Format,
+    /// A plan for the MPIDRs stands beside the hash.
+    pub plan: bool,
     /// Nothing is printed of an accepted board.
     pub check: bool,
     pub quiet: bool,
@@ -42,6 +44,21 @@ impl Options {
     /// The kind of board to read.
     pub fn kind(&self) -> Kind {
         self.board.unwrap_or_default()
+    }
+
+    /// What is wrong with all of them together.
+    fn fault(&self) -> Option<&'static str> {
+        let inputs = self.files.iter().filter(|file| *file == "-").count();
+        let without_plan = matches!(self.format, Format::Tree(_) | Format::Slots);
+        if self.files.is_empty() {
+            Some("no file")
+        } else if inputs > 1 {
+            Some("standard input can be read once")
+        } else if self.plan && without_plan {
+            Some("option '--plan' goes with the table, --parse and --json only")
+        } else {
+            None
+        }
     }
 }
 
@@ -106,6 +123,7 @@ impl<I: Iterator<Item = OsString>> Reader<I> {
             "-t" => options.format = Format::Tree(Drawing::Auto),
             "--tree" => options.format = Format::Tree(drawing(arguments.own_value())?),
             "-s" | "--slots" => options.format = Format::Slots,
+            "--plan" => options.plan = true,
             _ => return Err(format!("unknown option '{option}'")),
         }
         Ok(None)
@@ -122,20 +140,10 @@ impl<I: Iterator<Item = OsString>> Reader<I> {
                 }
             }
         }
-        if self.options.files.is_empty() {
-            return Err("no file".to_string());
+        match self.options.fault() {
+            Some(fault) => Err(fault.to_string()),
+            None => Ok(Request::Run(self.options)),
         }
-        if self
-            .options
-            .files
-            .iter()
-            .filter(|file| *file == "-")
-            .count()
-            > 1
-        {
-            return Err("standard input can be read once".to_string());
-        }
-        Ok(Request::Run(self.options))
     }
 }
 
@@ -144,6 +152,7 @@ pub fn parse(arguments: impl IntoIterator<Item = OsString>) -> Result<Request, S
     let options = Options {
         board: None,
         format: Format::Table,
+        plan: false,
         check: false,
         quiet: false,
         files: Vec::new(),
@@ -173,6 +182,7 @@ mod tests {
         let wanted = Options {
             board: Some(Kind::Arm32),
             format: Format::Json,
+            plan: false,
             check: false,
             quiet: true,
             files: vec!["a.dtb".into()],
@@ -243,6 +253,25 @@ mod tests {
         ] {
             assert_eq!(options(line).format, wanted, "{line}");
         }
+    }
+
+    /// The format that counts decides whether there can be a plan.
+    #[test]
+    fn plans() {
+        assert!(!options("a").plan);
+        for line in ["--plan a", "-p --plan a", "a --plan -j", "-ts --plan -j a"] {
+            assert!(options(line).plan, "{line}");
+        }
+        assert!(options("--plan -c a").plan && !options("-- --plan").plan);
+        let wrong = "option '--plan' goes with the table, --parse and --json only".to_string();
+        for line in ["--plan -t a", "--plan -js a", "--tree=ascii a --plan"] {
+            assert_eq!(parsed(line), Err(wrong.clone()), "{line}");
+        }
+        let value = "option '--plan' takes no value".to_string();
+        assert_eq!(parsed("--plan=0 a"), Err(value));
+        assert_eq!(parsed("--plan -t -h"), Ok(Request::Help));
+        let twice = Err("standard input can be read once".to_string());
+        assert_eq!(parsed("--plan -s - -"), twice);
     }
 
     #[test]

@@ -7,6 +7,7 @@ use crate::escape::for_terminal;
 use crate::flat::{self, Reading};
 use crate::layout::Layout;
 use crate::options::{Drawing, Format, Options};
+use crate::plan;
 use crate::report::Report;
 use crate::status::{ACCEPTED, REFUSED, UNREADABLE};
 use crate::streams::{complain, Printer};
@@ -32,7 +33,10 @@ impl Job<'_> {
     /// The text of an accepted board. Only `--slots` needs a table of slots, which not every board has.
     fn text(&self, tables: &Tables) -> Result<String, Refusal> {
         let kind = self.options.kind();
-        let board = || board::read(kind, tables);
+        let board = || match self.options.plan {
+            true => board::read_planned(kind, tables),
+            false => board::read(kind, tables),
+        };
         Ok(match self.options.format {
             Format::Table => output::table(tables, &board()?),
             Format::Parsable => output::parsable(tables, &board()?),
@@ -41,6 +45,13 @@ impl Job<'_> {
             Format::Tree(_) => output::tree(tables, &board()?),
             Format::Slots => output::slots(tables, &board::read_slots(kind, tables)?),
         })
+    }
+
+    /// What is told of a board that is accepted where there is no plan to print.
+    fn plan_note(&self) -> Option<&'static str> {
+        let Options { plan, check, .. } = self.options;
+        let nothing = *plan && !*check && !self.options.kind().has_mpidrs();
+        nothing.then_some(plan::NOTHING)
     }
 
     /// The text of the board, or why it is refused; notes are told.
@@ -56,13 +67,17 @@ impl Job<'_> {
         for note in [note, other_kind].into_iter().flatten() {
             self.tell(&format!("note: {}", for_terminal(&note)));
         }
-        self.text(&tables).map_err(|refusal| {
+        let text = self.text(&tables).map_err(|refusal| {
             Report::of_board(&Told {
                 tables: &tables,
                 kind: self.options.kind(),
                 refusal,
             })
-        })
+        })?;
+        if let Some(note) = self.plan_note() {
+            self.tell(&format!("note: {note}"));
+        }
+        Ok(text)
     }
 
     /// What is printed of a file, if anything, and its status.

@@ -92,14 +92,21 @@ def read(file):
     return json.loads(text, object_pairs_hook=distinct, parse_constant=no_constant)
 
 
+def check_object(one):
+    """What the schema cannot say of a board or a refusal."""
+    if next(iter(one)) != "schema":
+        raise ValueError("schema is not the first member")
+    if any(("planned" in row) != ("plan" in one) for row in one.get("rows", [])):
+        raise ValueError("planned stands without a plan, or a plan without it")
+
+
 def check(checker, file):
     """Raises an error where the document is wrong."""
     document = read(file)
     if not checker.valid(document, checker.root):
         raise ValueError("it does not keep the schema")
     for one in document if isinstance(document, list) else [document]:
-        if next(iter(one)) != "schema":
-            raise ValueError("schema is not the first member")
+        check_object(one)
     expected = file.with_suffix(".cpu")
     if expected.exists() and document["rows"][0]["cpu"] != expected.read_bytes().decode("utf-8"):
         raise ValueError(f"cpu is {document['rows'][0]['cpu']!r}")

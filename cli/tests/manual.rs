@@ -49,6 +49,20 @@ fn manual_lists_the_options() {
     }
 }
 
+/// Those with a long name alone are known, too.
+#[test]
+fn help_lists_long_options() {
+    let lines = USAGE.lines().filter(|line| line.starts_with("      --"));
+    let names = lines.filter_map(|line| line.split_whitespace().next());
+    let names: Vec<&str> = names.collect();
+    assert_eq!(names, ["--plan"]);
+    for name in names {
+        assert!(options::parse([name, "file"].map(From::from)).is_ok());
+        let option = format!("\n.TP\n.B {}\n", name.replace('-', "\\-"));
+        assert!(MANUAL.contains(&option), "{option}");
+    }
+}
+
 /// Both names of each option in the help are known, and take each value that stands there.
 #[test]
 fn help_lists_known_options() {

@@ -21,6 +21,11 @@ pub struct Hash {
 }
 
 impl Hash {
+    /// How many slots there are: 2 to the bits; 1 for a RISC-V board, whose rows have none.
+    pub const fn slots(&self) -> u64 {
+        1 << self.bits
+    }
+
     pub(crate) fn of_words(words: &[u32; ANSWER_WORDS]) -> Self {
         let shift = |level| words[ANSWER_SHIFTS + level];
         Hash {

@@ -2,7 +2,7 @@
 //! Reading a board: from tables, or from a flattened devicetree.
 
 use crate::layout::{ANSWER_WORDS, BYTES_ANSWER, FLAT_ANSWER_WORDS, FLAT_NODES, FLAT_PROPERTIES};
-use crate::told::{told, told_bytes, told_flat};
+use crate::told::{told, told_bytes, told_place};
 use crate::{calls, Board, Kind, Records, Refusal, Tables};
 
 /// Fills the tables of the `/cpus` subtree of a flattened devicetree: each node and each property once, in the order of the blob.
@@ -17,7 +17,7 @@ use crate::{calls, Board, Kind, Records, Refusal, Tables};
 pub fn read_flat(blob: &[u8], nodes: &mut [u32], props: &mut [u32]) -> Result<Records, Refusal> {
     let mut answer = [0; FLAT_ANSWER_WORDS];
     let number = calls::read_flat(blob, nodes, props, &mut answer);
-    told_flat(number, &answer)?;
+    told_place(number, &answer)?;
     Ok(Records {
         nodes: answer[FLAT_NODES] as usize,
         properties: answer[FLAT_PROPERTIES] as usize,

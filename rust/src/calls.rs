@@ -26,6 +26,44 @@ pub fn list_slot(mpidr: u64, list: &[u64], answer: &mut [u32]) -> u32 {
     unsafe { raw::sunderwath_list_slot(mpidr, list.as_ptr(), list.len(), out, words) }
 }
 
+/// `sunderwath_plan_check`: whether positions are a plan for a list.
+pub fn plan_check(list: &[u64], positions: &[u32], answer: &mut [u32]) -> u32 {
+    // SAFETY: see the head of this file.
+    unsafe {
+        raw::sunderwath_plan_check(
+            list.as_ptr(),
+            list.len(),
+            positions.as_ptr(),
+            positions.len(),
+            answer.as_mut_ptr(),
+            answer.len(),
+        )
+    }
+}
+
+/// `sunderwath_plan_slot`: the slot of an MPIDR of a list under a plan.
+pub fn plan_slot(mpidr: u64, list: &[u64], positions: &[u32], answer: &mut [u32]) -> u32 {
+    // SAFETY: see the head of this file.
+    unsafe {
+        raw::sunderwath_plan_slot(
+            mpidr,
+            list.as_ptr(),
+            list.len(),
+            positions.as_ptr(),
+            positions.len(),
+            answer.as_mut_ptr(),
+            answer.len(),
+        )
+    }
+}
+
+/// `sunderwath_plan_make`: a plan for a list.
+pub fn plan_make(list: &[u64], answer: &mut [u32]) -> u32 {
+    let (out, words) = (answer.as_mut_ptr(), answer.len());
+    // SAFETY: see the head of this file.
+    unsafe { raw::sunderwath_plan_make(list.as_ptr(), list.len(), out, words) }
+}
+
 /// `sunderwath_check_tables`: rules 1 to 8 alone. For tests only; it may change or go.
 pub fn check_tables(width: u32, tables: Tables<'_>, answer: &mut [u32]) -> u32 {
     let Tables { nodes, props, pool } = tables;

@@ -51,6 +51,19 @@ constants! {
     /// Byte at which the count begins in an answer of bytes: processors; for `slot` the slot.
     BYTES_COUNT: usize = 12;
 
+    /// Words of the answer of `plan_check`.
+    PLAN_CHECK_ANSWER_WORDS: usize = 2;
+    /// Words of the answer of `plan_slot`.
+    PLAN_SLOT_ANSWER_WORDS: usize = 3;
+    /// Words of the answer of `plan_make`.
+    PLAN_MAKE_ANSWER_WORDS: usize = 35;
+    /// Word of the answer of `plan_slot`: the slot.
+    PLAN_ANSWER_SLOT: usize = 2;
+    /// Word of the answer of `plan_make`: how many positions there are.
+    PLAN_ANSWER_LENGTH: usize = 2;
+    /// First of 32 words of the answer of `plan_make`: the positions, rising, and 0 behind them.
+    PLAN_ANSWER_FIRST: usize = 3;
+
     /// Words of a row.
     ROW_WORDS: usize = 12;
     /// Bytes of a row that `read_blob` writes.
@@ -102,6 +115,8 @@ constants! {
     MAX_TABLE_BITS: u32 = 12;
     /// Entries of a table of slots with room for each such hash.
     MAX_TABLE: usize = 1 << MAX_TABLE_BITS;
+    /// Limit: positions of a plan, one for each affinity bit.
+    MAX_PLAN: usize = 32;
     /// Node records of `/cpus` that `read_blob` has room for, on the stack.
     BLOB_MAX_NODES: usize = 1024;
     /// Property records of `/cpus` that `read_blob` has room for, on the stack.

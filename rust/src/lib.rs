@@ -68,6 +68,7 @@ mod kind;
 pub mod layout;
 mod lists;
 mod place;
+mod plans;
 mod raw;
 mod refusal;
 mod row;
@@ -81,11 +82,12 @@ pub use boards::{read_blob, read_flat, read_tables, read_tables_slots};
 pub use kind::Kind;
 pub use layout::{
     ANSWER_WORDS, BLOB_MAX_NODES, BLOB_MAX_PROPERTIES, BYTES_ANSWER, FLAT_ANSWER_WORDS, GAP,
-    MAX_BLOB, MAX_CPUS, MAX_NODES, MAX_POOL, MAX_PROPERTIES, MAX_TABLE, MAX_TABLE_BITS,
+    MAX_BLOB, MAX_CPUS, MAX_NODES, MAX_PLAN, MAX_POOL, MAX_PROPERTIES, MAX_TABLE, MAX_TABLE_BITS,
     MPIDR_BYTES, NODE_WORDS, NONE, NO_PROPERTY, PROPERTY_WORDS, ROW_BYTES, ROW_WORDS,
 };
 pub use lists::{list_hash, list_slot, slot};
 pub use place::Place;
+pub use plans::{plan_check, plan_make, plan_slot, Plan};
 pub use refusal::Refusal;
 pub use row::{rows, rows_of_bytes, Row};
 pub use rule::Rule;

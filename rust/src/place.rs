@@ -39,6 +39,7 @@ impl Rule {
             | Rule::SlotTableBits
             | Rule::SlotTableSpace
             | Rule::ListLength
+            | Rule::PlanPositions
             | Rule::ListUnknown
             | Rule::AnswerSpace => Place::Nothing,
             Rule::BlobStructure => Place::Offset,

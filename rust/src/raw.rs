@@ -12,6 +12,32 @@ extern "C" {
         a: usize,
     ) -> u32;
 
+    pub fn sunderwath_plan_check(
+        list: *const u64,
+        list_n: usize,
+        positions: *const u32,
+        positions_n: usize,
+        answer: *mut u32,
+        answer_n: usize,
+    ) -> u32;
+
+    pub fn sunderwath_plan_slot(
+        mpidr: u64,
+        list: *const u64,
+        list_n: usize,
+        positions: *const u32,
+        positions_n: usize,
+        answer: *mut u32,
+        answer_n: usize,
+    ) -> u32;
+
+    pub fn sunderwath_plan_make(
+        list: *const u64,
+        list_n: usize,
+        answer: *mut u32,
+        answer_n: usize,
+    ) -> u32;
+
     pub fn sunderwath_check_tables(
         width: u32,
         nodes: *const u32,

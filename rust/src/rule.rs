@@ -83,6 +83,8 @@ pub enum Rule {
     ListLength = 28,
     /// An MPIDR of the list has a bit outside 39..32 and 23..0.
     ListMpidr = 29,
+    /// The positions of a plan do not rise strictly, lie outside 39..32 and 23..0, or do not tell the MPIDRs of the list apart.
+    PlanPositions = 40,
     /// The asked MPIDR is not in the list.
     ListUnknown = 30,
     /// The answer is shorter than stated. Only [`calls`](crate::calls) can be told this.
@@ -91,7 +93,7 @@ pub enum Rule {
 
 impl Rule {
     /// All rules, in the order in which they are checked.
-    pub const ALL: [Rule; 39] = [
+    pub const ALL: [Rule; 40] = [
         Rule::BlobHeader,
         Rule::BlobBlocks,
         Rule::BlobStructure,
@@ -129,6 +131,7 @@ impl Rule {
         Rule::SlotTableSpace,
         Rule::ListLength,
         Rule::ListMpidr,
+        Rule::PlanPositions,
         Rule::ListUnknown,
         Rule::AnswerSpace,
     ];

@@ -3,7 +3,7 @@
 
 use crate::layout::{
     ANSWER_PLACE, ANSWER_SECOND, ANSWER_WORDS, BYTES_ANSWER, BYTES_COUNT, BYTES_PLACE,
-    BYTES_SECOND, FLAT_ANSWER_WORDS, NO_PROPERTY,
+    BYTES_SECOND, NO_PROPERTY,
 };
 use crate::Refusal;
 
@@ -19,8 +19,8 @@ pub fn told(number: u32, answer: &[u32; ANSWER_WORDS]) -> Result<(), Refusal> {
     }
 }
 
-/// Of an answer of `read_flat`, which has no second place.
-pub fn told_flat(number: u32, answer: &[u32; FLAT_ANSWER_WORDS]) -> Result<(), Refusal> {
+/// Of an answer of words without a second place: that of `read_flat`, and those of the calls on plans.
+pub fn told_place(number: u32, answer: &[u32]) -> Result<(), Refusal> {
     match number {
         0 => Ok(()),
         _ => Err(Refusal::of(number, answer[ANSWER_PLACE], NO_PROPERTY)),

@@ -1,9 +1,10 @@
 /* SPDX-License-Identifier: BSD-2-Clause OR GPL-2.0-or-later */
 /*
  * Measures the stack that sunderwath_read_tables, sunderwath_read_tables_slots,
- * sunderwath_read_flat, sunderwath_read_blob and sunderwath_slot need. Each
- * board, blob or list is read on a stack of its own, painted before; afterwards
- * the paint that is gone is counted, less what an empty function takes there.
+ * sunderwath_read_flat, sunderwath_read_blob, sunderwath_slot and the calls on
+ * lists and plans need. Each board, blob or list is read on a stack of its own,
+ * painted before; afterwards the paint that is gone is counted, less what an
+ * empty function takes there.
  * Boards are read as ARM boards and then as RISC-V boards. What the C library's
  * memset and memcpy take is counted too.
  * Prints the bytes of each; exit status 1 where one needs more than the header
@@ -15,6 +16,7 @@
 #define _XOPEN_SOURCE 700
 
 #include "blob.h"
+#include "plan.h"
 #include "sunderwath.h"
 
 #include <stdio.h>
@@ -38,6 +40,10 @@
  * each board. */
 #define ORDINARY_BLOB_BYTES \
     (SUNDERWATH_BLOB_STACK_BYTES - (SUNDERWATH_STACK_BYTES - ORDINARY_BYTES))
+
+/* About 100, as the header says of sunderwath_list_hash and
+ * sunderwath_list_slot. */
+#define LIST_BYTES 110
 
 /* What the header may state beyond what a call needs: read_tables needs a little
  * less than read_tables_slots, of which the header states the same. */
@@ -71,6 +77,11 @@ static uint8_t list[(SUNDERWATH_MAX_CPUS + 1) * SUNDERWATH_MPIDR_BYTES];
 static size_t list_n;
 static uint64_t asked;
 static uint8_t told[SUNDERWATH_BYTES_ANSWER];
+
+static uint64_t mpidrs[SUNDERWATH_MAX_CPUS + 1];
+static uint32_t positions[SUNDERWATH_MAX_PLAN];
+static size_t mpidrs_n, positions_n;
+static uint32_t plan_answer[SUNDERWATH_PLAN_MAKE_ANSWER_WORDS];
 
 static uint64_t stack[STACK_WORDS];
 static ucontext_t outside, inside;
@@ -310,6 +321,35 @@ static void ask_slot(void)
     sunderwath_slot(asked, list, list_n, told, sizeof told);
 }
 
+static void hash_list(void)
+{
+    sunderwath_list_hash(mpidrs, mpidrs_n, answer, SUNDERWATH_ANSWER_WORDS);
+}
+
+static void ask_list_slot(void)
+{
+    sunderwath_list_slot(asked, mpidrs, mpidrs_n, answer,
+                         SUNDERWATH_ANSWER_WORDS);
+}
+
+static void check_plan(void)
+{
+    sunderwath_plan_check(mpidrs, mpidrs_n, positions, positions_n,
+                          plan_answer, SUNDERWATH_PLAN_CHECK_ANSWER_WORDS);
+}
+
+static void ask_plan_slot(void)
+{
+    sunderwath_plan_slot(asked, mpidrs, mpidrs_n, positions, positions_n,
+                         plan_answer, SUNDERWATH_PLAN_SLOT_ANSWER_WORDS);
+}
+
+static void make_plan(void)
+{
+    sunderwath_plan_make(mpidrs, mpidrs_n, plan_answer,
+                         SUNDERWATH_PLAN_MAKE_ANSWER_WORDS);
+}
+
 static void do_nothing(void)
 {
 }
@@ -349,21 +389,38 @@ static void take_told_words(void)
     answer[SUNDERWATH_ANSWER_COUNT] = told_word(SUNDERWATH_BYTES_COUNT);
 }
 
+static int is_of_plans(void)
+{
+    return reader == check_plan || reader == ask_plan_slot ||
+           reader == make_plan;
+}
+
+/* The answer of a call on plans has no second place. */
+static void take_plan_words(void)
+{
+    answer[SUNDERWATH_ANSWER_NUMBER] = plan_answer[SUNDERWATH_ANSWER_NUMBER];
+    answer[SUNDERWATH_ANSWER_PLACE] = plan_answer[SUNDERWATH_ANSWER_PLACE];
+}
+
 /* Reads the board or blob once before: what the dynamic linker does at the
  * first call of a function is not counted. */
 static void measure(const char *name, uint32_t number, uint32_t place)
 {
-    /* none of a board here; read_flat does not write the word */
-    uint32_t second = reader == read_flat ? 0xA5A5A5A5 : SUNDERWATH_NONE;
+    /* none of a board here; the others do not write the word */
+    uint32_t second = reader == read_flat || is_of_plans() ? 0xA5A5A5A5
+                                                            : SUNDERWATH_NONE;
     size_t need;
     const char *verdict = "ok";
 
     reader();
     memset(answer, 0xA5, sizeof answer);
     memset(told, 0xA5, sizeof told);
+    memset(plan_answer, 0xA5, sizeof plan_answer);
     need = bytes_touched(reader) - bytes_touched(do_nothing);
     if (reader == read_blob || reader == ask_slot)
         take_told_words();
+    if (is_of_plans())
+        take_plan_words();
     if (need > largest)
         largest = need;
     if (need > limit)
@@ -610,6 +667,69 @@ static void slots_of_lists(void)
     sum_up("SUNDERWATH_SLOT_STACK_BYTES", SUNDERWATH_SLOT_STACK_BYTES);
 }
 
+/* ---- plans ---- */
+
+/* A list with a plan of all 32 positions; the last MPIDR is asked. */
+static void list_to_plan(size_t count)
+{
+    need_all_positions(mpidrs, count, positions);
+    mpidrs_n = count;
+    positions_n = SUNDERWATH_MAX_PLAN;
+    asked = mpidrs[count - 1];
+}
+
+/* One call on lists of all sorts; the last one is of 256. */
+static void plans_of_lists(void (*call)(void))
+{
+    reader = call;
+    list_to_plan(1);
+    measure("plan, list of 1", 0, 0);
+    list_to_plan(SUNDERWATH_MAX_CPUS + 1);
+    measure("plan, list of 257", SUNDERWATH_LIST_LENGTH, 0);
+    list_to_plan(SUNDERWATH_MAX_CPUS);
+    mpidrs[SUNDERWATH_MAX_CPUS - 1] = ~UINT64_C(0);
+    measure("plan, list of 256, bad bit", SUNDERWATH_LIST_MPIDR,
+            SUNDERWATH_MAX_CPUS - 1);
+    list_to_plan(SUNDERWATH_MAX_CPUS);
+    measure("plan, list of 256", 0, 0);
+}
+
+/* The last list, without the last position of its plan. */
+static void no_plan(void)
+{
+    positions_n--;
+    measure("plan without a position", SUNDERWATH_PLAN_POSITIONS, 0);
+    positions_n++;
+}
+
+static void ordinary_slots(void)
+{
+    limit = LIST_BYTES;
+    list_to_plan(SUNDERWATH_MAX_CPUS);
+    reader = hash_list;
+    measure("hash, list of 256", 0, 0);
+    reader = ask_list_slot;
+    measure("slot in the hash, list of 256", 0, 0);
+}
+
+static void plans(void)
+{
+    limit = SUNDERWATH_PLAN_STACK_BYTES;
+    plans_of_lists(check_plan);
+    no_plan();
+    plans_of_lists(ask_plan_slot);
+    no_plan();
+    asked = 7;
+    measure("plan, unknown MPIDR", SUNDERWATH_LIST_UNKNOWN, 0);
+    plans_of_lists(make_plan);
+    make_plan();
+    if (plan_answer[SUNDERWATH_PLAN_ANSWER_LENGTH] != SUNDERWATH_MAX_PLAN) {
+        puts("plan, list of 256: DIFFERENT length");
+        failures++;
+    }
+    sum_up("SUNDERWATH_PLAN_STACK_BYTES", SUNDERWATH_PLAN_STACK_BYTES);
+}
+
 int main(void)
 {
     boards(read_board);
@@ -622,6 +742,9 @@ int main(void)
     blobs_to_rows();
     sum_up("SUNDERWATH_BLOB_STACK_BYTES", SUNDERWATH_BLOB_STACK_BYTES);
     slots_of_lists();
+    puts("lists: hash, slot; plans: check, slot, make");
+    ordinary_slots();
+    plans();
 
     puts("RISC-V boards: tables, tables of slots, blobs to rows");
     width = SUNDERWATH_RISCV;

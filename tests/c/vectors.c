@@ -93,6 +93,11 @@ WHOLE(read_flat)(const uint8_t *, size_t, uint32_t *, size_t, uint32_t *, size_t
 WHOLE(read_blob)(uint32_t, const uint8_t *, size_t, uint8_t *, size_t, uint8_t *,
                  size_t) NAMED(read_blob);
 WHOLE(slot)(uint64_t, const uint8_t *, size_t, uint8_t *, size_t) NAMED(slot);
+WHOLE(plan_check)(const uint64_t *, size_t, const uint32_t *, size_t, uint32_t *,
+                  size_t) NAMED(plan_check);
+WHOLE(plan_slot)(uint64_t, const uint64_t *, size_t, const uint32_t *, size_t,
+                 uint32_t *, size_t) NAMED(plan_slot);
+WHOLE(plan_make)(const uint64_t *, size_t, uint32_t *, size_t) NAMED(plan_make);
 #else
 typedef uint32_t returned;
 #define LIBRARY(name) sunderwath_##name
@@ -154,6 +159,23 @@ static returned slot(uint64_t asked, const struct part *part)
     return LIBRARY(slot)(asked, BYTES(0), BYTES(1));
 }
 
+static returned plan_check(uint64_t asked, const struct part *part)
+{
+    (void)asked;
+    return LIBRARY(plan_check)(MPIDRS(0), WORDS(1), WORDS(2));
+}
+
+static returned plan_slot(uint64_t asked, const struct part *part)
+{
+    return LIBRARY(plan_slot)(asked, MPIDRS(0), WORDS(1), WORDS(2));
+}
+
+static returned plan_make(uint64_t asked, const struct part *part)
+{
+    (void)asked;
+    return LIBRARY(plan_make)(MPIDRS(0), WORDS(1));
+}
+
 /* By their number in the file. Parts: m MPIDRs, w words and b bytes that are
  * only read, W words and B bytes that are written. */
 static const struct {
@@ -169,6 +191,9 @@ static const struct {
     {"bWWW", read_flat},
     {"bBB", read_blob},
     {"bB", slot},
+    {"mwW", plan_check},
+    {"mwW", plan_slot},
+    {"mW", plan_make},
 };
 
 /* ---- input and output ---- */

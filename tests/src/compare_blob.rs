@@ -6,7 +6,7 @@ use crate::answer::Answer;
 use crate::build::flat_case::{shrink, write_text, FlatCase};
 use crate::build::loader::Lent;
 use crate::ffi;
-use crate::lent_bytes::Part;
+use crate::lent::Part;
 use crate::second::{self, Told, MOST_NODES, MOST_PROPERTIES};
 use sunderwath::ROW_WORDS;
 

@@ -3,7 +3,7 @@
 //! every byte that is lent and the bytes around them, and with list_slot.
 
 use crate::ffi;
-use crate::lent_bytes::Part;
+use crate::lent::Part;
 use crate::second::{self, Told};
 
 /// What is told of an MPIDR and a list of bytes that both agree on, for an

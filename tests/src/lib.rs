@@ -9,6 +9,7 @@ pub mod compare;
 pub mod compare_blob;
 pub mod compare_flat;
 pub mod compare_list;
+pub mod compare_plan;
 pub mod compare_slots;
 pub mod counts;
 pub mod dtc;
@@ -16,7 +17,9 @@ pub mod fast;
 #[cfg(feature = "fdt")]
 pub mod fdt;
 pub mod ffi;
-pub mod lent_bytes;
+pub mod lent;
+pub mod plan_answer;
+pub mod plan_claims;
 pub mod rng;
 pub mod second;
 pub mod timing;

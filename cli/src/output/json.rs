@@ -1,16 +1,15 @@
 // SPDX-License-Identifier: BSD-2-Clause OR GPL-2.0-or-later
 //! A board as a JSON object. docs/schema.json states its members.
 
-use super::{cluster_numbers, shifts};
+use super::{cluster_numbers, plan, shifts};
 use crate::board::Board;
 use crate::escape::for_json;
 use crate::kind::Wording;
 use crate::tables::Tables;
 use sunderwath::Kind;
-use sunderwath::Row;
 
 /// The version of the objects' form: the first member of each.
-pub const SCHEMA: u32 = 1;
+pub const SCHEMA: u32 = 2;
 
 /// An MPIDR is a string in hexadecimal, a hart id a number.
 fn id(kind: Kind, reg: u64) -> String {
@@ -22,11 +21,23 @@ fn id(kind: Kind, reg: u64) -> String {
     }
 }
 
-fn object_of_row(tables: &Tables, kind: Kind, row: &Row) -> String {
-    let or_null = |number: Option<u32>| number.map_or("null".to_string(), |n| n.to_string());
+fn or_null(number: Option<u32>) -> String {
+    number.map_or("null".to_string(), |number| number.to_string())
+}
+
+/// The last member of the row with this number, where there is a plan.
+fn planned(board: &Board, number: usize) -> String {
+    let planned = board.planned.as_ref();
+    planned.map_or(String::new(), |planned| {
+        format!(", \"planned\": {}", or_null(planned.slots[number]))
+    })
+}
+
+fn object_of_row(tables: &Tables, board: &Board, number: usize) -> String {
+    let (kind, row) = (board.kind, &board.rows[number]);
     format!(
         "    {{\"leaf\": {}, \"cpu\": {}, \"{}\": {}, \"socket\": {}, \
-         \"clusters\": [{}], \"core\": {}, \"thread\": {}, \"slot\": {}}}",
+         \"clusters\": [{}], \"core\": {}, \"thread\": {}, \"slot\": {}{}}}",
         for_json(&tables.path(row.leaf)),
         for_json(&tables.path(row.cpu)),
         kind.id_name(),
@@ -35,7 +46,8 @@ fn object_of_row(tables: &Tables, kind: Kind, row: &Row) -> String {
         cluster_numbers(row, ", "),
         row.core,
         or_null(row.thread),
-        or_null(row.slot)
+        or_null(row.slot),
+        planned(board, number)
     )
 }
 
@@ -53,16 +65,17 @@ fn members_of_hash(board: &Board) -> String {
 }
 
 pub fn json(file: &str, tables: &Tables, board: &Board) -> String {
-    let row = |row| object_of_row(tables, board.kind, row);
-    let rows: Vec<String> = board.rows.iter().map(row).collect();
+    let row = |number| object_of_row(tables, board, number);
+    let rows: Vec<String> = (0..board.rows.len()).map(row).collect();
     format!(
         "{{\n  \"schema\": {SCHEMA},\n  \"file\": {},\n  \"width\": {},\n  \"board\": \"{}\",\n  \
-         \"count\": {},\n{}  \"rows\": [\n{}\n  ]\n}}\n",
+         \"count\": {},\n{}{}  \"rows\": [\n{}\n  ]\n}}\n",
         for_json(file),
         board.kind.number(),
         board.kind.name(),
         board.rows.len(),
         members_of_hash(board),
+        plan::member(board),
         rows.join(",\n")
     )
 }

@@ -3,6 +3,7 @@
 
 mod json;
 mod parsable;
+mod plan;
 mod slots;
 mod table;
 mod tree;
@@ -16,15 +17,16 @@ pub use tree::{drawn_tree, tree};
 use crate::board::Board;
 use crate::kind::Wording;
 use crate::tables::Tables;
-use sunderwath::Kind;
 use sunderwath::Row;
 
-/// The names of the columns; the third one depends on what `reg` holds.
-fn header(kind: Kind) -> [&'static str; 8] {
-    let id = kind.id_name();
-    [
+/// The names of the columns; the third one depends on what `reg` holds, and only a plan has the last.
+fn header(board: &Board) -> Vec<&'static str> {
+    let id = board.kind.id_name();
+    let mut names = vec![
         "leaf", "cpu", id, "socket", "cluster", "core", "thread", "slot",
-    ]
+    ];
+    names.extend(board.planned.iter().map(|_| "planned"));
+    names
 }
 
 /// The records from below the map down to a leaf.
@@ -46,32 +48,38 @@ fn leaf_path(tables: &Tables, leaf: u32) -> String {
 
 /// The numbers of the clusters, outermost first.
 fn cluster_numbers(row: &Row, separator: &str) -> String {
-    let numbers = row.clusters.iter().flatten();
-    let numbers: Vec<String> = numbers.map(u32::to_string).collect();
-    numbers.join(separator)
+    joined(row.clusters.iter().flatten(), separator)
 }
 
-/// The columns of a row; `gap` stands where the map has no number, and where there is no slot.
-fn columns(tables: &Tables, kind: Kind, row: &Row, gap: &str) -> [String; 8] {
+/// The columns of the row with this number; `gap` stands where the map has no number, and where there is no slot.
+fn columns(tables: &Tables, board: &Board, number: usize, gap: &str) -> Vec<String> {
+    let row = &board.rows[number];
     let or_gap = |number: Option<u32>| number.map_or(gap.to_string(), |n| n.to_string());
-    [
+    let mut columns = vec![
         leaf_path(tables, row.leaf),
         tables.name(row.cpu),
-        kind.id_text(row.reg),
+        board.kind.id_text(row.reg),
         or_gap(row.socket),
         cluster_numbers(row, "/"),
         row.core.to_string(),
         or_gap(row.thread),
         or_gap(row.slot),
-    ]
+    ];
+    let planned = board.planned.iter();
+    columns.extend(planned.map(|planned| or_gap(planned.slots[number])));
+    columns
+}
+
+fn joined<'a>(numbers: impl IntoIterator<Item = &'a u32>, separator: &str) -> String {
+    let numbers: Vec<String> = numbers.into_iter().map(u32::to_string).collect();
+    numbers.join(separator)
 }
 
 fn shifts(board: &Board, separator: &str) -> String {
-    let shifts: Vec<String> = board.hash.shifts.iter().map(u32::to_string).collect();
-    shifts.join(separator)
+    joined(&board.hash.shifts, separator)
 }
 
-/// The last line of a table or tree: the hash of all MPIDRs, nothing where there are none.
+/// The line under a table or tree: the hash of all MPIDRs, nothing where there are none.
 fn hash_line(board: &Board) -> String {
     if !board.kind.has_mpidrs() {
         return String::new();

@@ -1,7 +1,7 @@
 // SPDX-License-Identifier: BSD-2-Clause OR GPL-2.0-or-later
 //! A board as values separated by commas, with comments.
 
-use super::{columns, header, shifts};
+use super::{columns, header, plan, shifts};
 use crate::board::Board;
 use crate::escape::for_commas;
 use crate::tables::Tables;
@@ -20,10 +20,11 @@ fn hash_comment(board: &Board) -> String {
 }
 
 pub fn parsable(tables: &Tables, board: &Board) -> String {
-    let mut text = hash_comment(board);
-    text.push_str(&format!("# {}\n", header(board.kind).join(",")));
-    for row in &board.rows {
-        let values = columns(tables, board.kind, row, "").map(|value| for_commas(&value));
+    let mut text = hash_comment(board) + &plan::comment(board);
+    text.push_str(&format!("# {}\n", header(board).join(",")));
+    for row in 0..board.rows.len() {
+        let values = columns(tables, board, row, "");
+        let values: Vec<_> = values.iter().map(|value| for_commas(value)).collect();
         text.push_str(&values.join(","));
         text.push('\n');
     }

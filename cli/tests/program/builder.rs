@@ -167,6 +167,23 @@ pub fn small() -> Vec<u8> {
     Builder::rooted().cpus().finish()
 }
 
+/// A board of one cluster with these MPIDRs, two cells each.
+pub fn with_mpidrs(mpidrs: &[u64]) -> Vec<u8> {
+    let cpu = |board: Builder, (at, mpidr): (u32, &u64)| {
+        let board = board.open_cpu(&format!("cpu@{mpidr:x}"));
+        let board = board.prop("reg", &mpidr.to_be_bytes());
+        board.cell("phandle", at + 1).close()
+    };
+    let board = Builder::rooted().open_cpus(2);
+    let board = (0..).zip(mpidrs).fold(board, cpu);
+    let board = board.begin("cpu-map").begin("cluster0");
+    let count = mpidrs.len() as u32;
+    let board = (0..count).fold(board, |board, core| {
+        board.leaf(&format!("core{core}"), core + 1)
+    });
+    board.close().close().close().finish()
+}
+
 /// The blob with one word changed.
 pub fn patched(blob: &[u8], at: usize, word: u32) -> Vec<u8> {
     let mut changed = blob.to_vec();

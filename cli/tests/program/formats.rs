@@ -56,7 +56,7 @@ hash: mask 0x3, shifts 0 6 14 30, bits 2
     let file = board("whole-case");
     let json = run(&["--json", &file]);
     let expected = r#"{
-  "schema": 1,
+  "schema": 2,
   "file": "FILE",
   "width": 64,
   "board": "arm64",

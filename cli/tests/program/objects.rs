@@ -17,7 +17,7 @@ fn told(blob: &[u8]) -> (String, String) {
 fn object(file: &str, fields: [&str; 6]) -> String {
     let [number, check, place, node, property, message] = fields;
     format!(
-        "{{\n  \"schema\": 1,\n  \"file\": \"{file}\",\n  \"number\": {number},\n  \
+        "{{\n  \"schema\": 2,\n  \"file\": \"{file}\",\n  \"number\": {number},\n  \
          \"check\": {check},\n  \"place\": {place},\n  \"node\": {node},\n  \
          \"property\": {property},\n  \"message\": {message}\n}}\n"
     )

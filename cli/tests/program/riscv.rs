@@ -165,7 +165,7 @@ fn object() {
     let rows = [(0, "cpu@1000", 4096), (1, "cpu@40", 64), (2, "cpu@1", 1)];
     let rows = rows.map(|(core, cpu, hart)| member(core, cpu, hart));
     let file = board("sparse-harts");
-    let members = format!("  \"schema\": 1,\n  \"file\": \"{file}\",\n  \"width\": 5,");
+    let members = format!("  \"schema\": 2,\n  \"file\": \"{file}\",\n  \"width\": 5,");
     let members = members + "\n  \"board\": \"riscv\",\n  \"count\": 3,";
     let rows = rows.join(",\n");
     let expected = format!("{{\n{members}\n  \"rows\": [\n{rows}\n  ]\n}}\n");

@@ -4,6 +4,7 @@
 
 use crate::boards::names;
 use crate::builder::{small, Builder};
+use crate::generator::Generator;
 use crate::run::{board, directory, run, run_in, run_on_input, text, written};
 use std::fs;
 use std::path::{Path, PathBuf};
@@ -67,27 +68,18 @@ fn every_board() {
     for kind in Kind::ALL.map(Kind::name) {
         for file in &files {
             documents.add(&run(&["-qjb", kind, file]).stdout);
+            documents.add(&run(&["--plan", "-qjb", kind, file]).stdout);
             documents.add(&run(&["-qcjb", kind, file]).stdout);
         }
-        for options in ["-qjb", "-qcjb"] {
-            documents.add(&run(&[&[options, kind], &files[..]].concat()).stdout);
+        for options in [&["-qjb"][..], &["-qcjb"], &["--plan", "-qjb"]] {
+            documents.add(&run(&[options, &[kind], &files[..]].concat()).stdout);
         }
     }
-    assert_eq!(documents.count, 3 * (2 * files.len() + 2));
+    assert_eq!(documents.count, 3 * (3 * files.len() + 3));
     documents.check();
 }
 
-/// Numbers that look like chance, the same ones in every run.
-struct Generator(u64);
-
 impl Generator {
-    fn below(&mut self, limit: u64) -> u64 {
-        self.0 ^= self.0 << 13;
-        self.0 ^= self.0 >> 7;
-        self.0 ^= self.0 << 17;
-        self.0 % limit
-    }
-
     /// Bytes of a name, of any kind or of those that formats and terminals treat as their own.
     fn name(&mut self) -> Vec<u8> {
         const ODD: &[u8] =
@@ -168,14 +160,35 @@ fn names_of_properties_and_files() {
     documents.check();
 }
 
+impl Documents {
+    /// Each one as it is changed, once, from the second text to the third.
+    fn add_changed(&mut self, changes: &[(&Vec<u8>, &str, &str)]) {
+        for (document, old, new) in changes {
+            let changed = text(document).replacen(old, new, 1);
+            assert_ne!(changed.as_bytes(), &document[..], "{old}");
+            self.add(changed.as_bytes());
+        }
+    }
+
+    /// All of them are told to be wrong.
+    fn check_wrong(&self) {
+        let output = self.checked();
+        assert_eq!(output.status.code(), Some(1), "{}", text(&output.stderr));
+        let (count, told) = (self.count, text(&output.stdout));
+        let all = format!("\n{count} documents, {count} wrong\n");
+        assert!(told.ends_with(&all), "{told}");
+    }
+}
+
 /// A document that is not right is told: what checks them is tried here.
 #[test]
 fn wrong_documents() {
     let accepted = run(&["-j", &board("whole-case")]).stdout;
     let refused = run(&["-qj", &board("refused-24-cpu0")]).stdout;
-    let wrong = [
-        (&accepted, "\"schema\": 1", "\"schema\": 2"),
-        (&accepted, "\"schema\": 1", "\"schema\": true"),
+    let mut documents = Documents::new("wrong");
+    documents.add_changed(&[
+        (&accepted, "\"schema\": 2", "\"schema\": 1"),
+        (&accepted, "\"schema\": 2", "\"schema\": true"),
         (&accepted, "\"count\": 2", "\"count\": \"2\""),
         (&accepted, "  \"count\": 2,\n", ""),
         (&accepted, "\"width\": 64", "\"width\": 5"),
@@ -191,22 +204,33 @@ fn wrong_documents() {
         (&refused, "\"property\": \"cpu\"", "\"property\": 5"),
         (&refused, "\"number\": 24", "\"number\": 24, \"more\": 1"),
         (&refused, "core1", "core\n1"),
-    ];
-    let mut documents = Documents::new("wrong");
-    for (document, old, new) in wrong {
-        let changed = text(document).replacen(old, new, 1);
-        assert_ne!(changed.as_bytes(), &document[..], "{old}");
-        documents.add(changed.as_bytes());
-    }
-    let late = text(&accepted).replacen("  \"schema\": 1,\n", "", 1);
-    let late = late.replacen("\"count\"", "\"schema\": 1, \"count\"", 1);
+    ]);
+    let late = text(&accepted).replacen("  \"schema\": 2,\n", "", 1);
+    let late = late.replacen("\"count\"", "\"schema\": 2, \"count\"", 1);
     documents.add(late.as_bytes());
-    let output = documents.checked();
-    assert_eq!(output.status.code(), Some(1), "{}", text(&output.stderr));
-    let count = wrong.len() + 1;
-    let told = text(&output.stdout);
-    assert!(
-        told.ends_with(&format!("\n{count} documents, {count} wrong\n")),
-        "{told}"
-    );
+    documents.check_wrong();
+}
+
+/// A plan has all its members, and each row its slot under it; where there is none, no row has.
+#[test]
+fn wrong_plans() {
+    let plain = run(&["-j", &board("whole-case")]).stdout;
+    let planned = run(&["-j", "--plan", &board("whole-case")]).stdout;
+    let harts = run(&["-qjb", "riscv", "--plan", &board("sparse-harts")]).stdout;
+    let mut documents = Documents::new("wrong-plans");
+    documents.add_changed(&[
+        (&planned, "\"positions\": [8]", "\"positions\": [24]"),
+        (&planned, "\"positions\": [8]", "\"positions\": 8"),
+        (&planned, "\"slots_after\": 2", "\"slots_after\": 0"),
+        (&planned, ", \"saved\": 0", ""),
+        (&planned, "\"saved\": 0", "\"saved\": 0, \"more\": 1"),
+        (&planned, "\"planned\": 1", "\"planned\": null"),
+        (&planned, ", \"planned\": 1", ""),
+        (&planned, "\"plan\": {", "\"plane\": {"),
+        (&plain, "\"slot\": 1", "\"slot\": 1, \"planned\": 1"),
+        (&plain, "\"bits\": 1,", "\"bits\": 1, \"plan\": null,"),
+        (&harts, "\"planned\": null", "\"planned\": 0"),
+        (&harts, "  \"plan\": null,\n", ""),
+    ]);
+    documents.check_wrong();
 }

@@ -2,7 +2,7 @@
 //! What `--slots` prints: each slot with the leaf that has it, and no table for a hash of more than 12 bits.
 
 use crate::boards::{ACCEPTED, REFUSED};
-use crate::builder::Builder;
+use crate::builder::{with_mpidrs, Builder};
 use crate::run::{board, run, run_on_input, text};
 
 #[test]
@@ -72,23 +72,6 @@ fn same_slots_as_the_rows() {
         let lines = lines.map(|(slot, leaf)| format!("{slot:<width$} {leaf}\n"));
         assert_eq!(text(&output.stdout), lines.collect::<String>(), "{name}");
     }
-}
-
-/// A board of one cluster with these MPIDRs, two cells each.
-fn with_mpidrs(mpidrs: &[u64]) -> Vec<u8> {
-    let cpu = |board: Builder, (at, mpidr): (u32, &u64)| {
-        let board = board.open_cpu(&format!("cpu@{mpidr:x}"));
-        let board = board.prop("reg", &mpidr.to_be_bytes());
-        board.cell("phandle", at + 1).close()
-    };
-    let board = Builder::rooted().open_cpus(2);
-    let board = (0..).zip(mpidrs).fold(board, cpu);
-    let board = board.begin("cpu-map").begin("cluster0");
-    let count = mpidrs.len() as u32;
-    let board = (0..count).fold(board, |board, core| {
-        board.leaf(&format!("core{core}"), core + 1)
-    });
-    board.close().close().close().finish()
 }
 
 #[test]

@@ -3,11 +3,13 @@
 
 use crate::run::{board, run, text};
 
+const NO_PLAN: &str = "option '--plan' goes with the table, --parse and --json only";
+
 /// Two lines, and nothing is read.
 #[test]
 fn wrong_usage() {
     let file = board("whole-case");
-    let wrong: [(&[&str], &str); 9] = [
+    let wrong: [(&[&str], &str); 12] = [
         (&[], "no file"),
         (&["--slots"], "no file"),
         (
@@ -23,6 +25,9 @@ fn wrong_usage() {
         (&["-jqX", &file], "unknown option '-X'"),
         (&[&file, "--json=1"], "option '--json' takes no value"),
         (&[&file, "-w"], "option '-w' needs a value"),
+        (&["--plan=2", &file], "option '--plan' takes no value"),
+        (&["--plan", "--tree", &file], NO_PLAN),
+        (&["-cs", &file, "--plan"], NO_PLAN),
     ];
     for (arguments, message) in wrong {
         let output = run(arguments);

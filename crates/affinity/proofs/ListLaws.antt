@@ -13,13 +13,13 @@ use Rattle.laws.specs.answers.Search.{isAmong}
 use Rattle.laws.proofs.SearchLaws.{true-false}
 use Rattle.laws.proofs.FaultLaws.{first-is, clear-below, place-le}
 use Rattle.laws.proofs.OrElseLaws.{or-clear}
-use Rattle.affinity.specs.declared.list.ListMask.{ListMask}
+use Rattle.affinity.specs.declared.ListMask.{ListMask}
 use Rattle.affinity.specs.declared.mask.Gathered.{Gathered}
 use Rattle.affinity.specs.answers.Level.{isAffine}
 use Rattle.affinity.specs.answers.Mask.{maskOf}
 use Rattle.affinity.specs.steps.Mask.{gathered}
-use Rattle.affinity.specs.answers.List.{lengthFault, bitFault, firstOutside, listFault, hashAnswer, slotAnswer}
-use Rattle.affinity.specs.steps.List.{AllAffine, maskAnswer}
+use Rattle.affinity.specs.answers.List.{lengthFault, bitFault, firstOutside, listFault, maskAnswer, hashAnswer, slotAnswer}
+use Rattle.affinity.specs.steps.List.{AllAffine}
 use Rattle.affinity.proofs.AffineLaws.{test-affine, affine-passes}
 use Rattle.affinity.proofs.MaskLaws.{some-affine, affine-some}
 
@@ -59,7 +59,7 @@ module _ (list : List ℕ) where
   fault-affine h = clear-affine (or-clear (told (lengthFault (length list)) 0) (firstOutside list) h .1)
 
   -- no place is above 256
-  fault-place-le : listFault list .place ≤ 256
+  pub fault-place-le : listFault list .place ≤ 256
   unfolding listFault firstOutside
   fault-place-le = go (eqb (length list) 0) refl (ltb 256 (length list)) refl
     where

@@ -72,7 +72,7 @@ module _ (m a l : ℕ) (l<4 : l < 4) where
       digit-shr kept shift k
       ∙ kept-out (shift + k) (⊎-elim (λ h. inl (omega (arith, shift-exact m l l<4))) (λ h. inr (omega (arith, shift-exact m l l<4))) out)
 
-bits-mono : (m i j : ℕ) → i ≤ j → bitsBelow m i ≤ bitsBelow m j
+pub bits-mono : (m i j : ℕ) → i ≤ j → bitsBelow m i ≤ bitsBelow m j
 unfolding sumBelow
 bits-mono m i j le = le-ind (λ (k : ℕ). bitsBelow m i ≤ bitsBelow m k) (omega arith) (λ k _ h. omega arith) j le
 

@@ -7,6 +7,7 @@ mod slot;
 
 pub use level::is_affine;
 pub use list::list_hash;
+pub use list::list_mask;
 pub use list::list_slot;
 pub use mask::mask_of;
 pub use slot::hash_of_mask;
@@ -17,6 +18,13 @@ pub struct Hash {
     pub mask: u64,
     pub shifts: [u32; 4],
     pub bits: u32,
+}
+
+// The mask of a list, or the number and the place of what is wrong with it.
+pub struct ListMask {
+    pub number: u32,
+    pub place: usize,
+    pub mask: u64,
 }
 
 // The hash of a list, or the number and the place of what is wrong with it.

@@ -6,6 +6,7 @@ use super::slot::hash_of_mask;
 use super::slot::slot_of;
 use crate::Hash;
 use crate::ListHash;
+use crate::ListMask;
 use crate::ListSlot;
 use laws::CLEAR;
 use laws::Fault;
@@ -14,16 +15,8 @@ use laws::limits::MAX_CPUS;
 use laws::limits::NO_PROPERTY;
 use laws::rules;
 ghost use mathlib.Core.Path.{_≡_};
-ghost use Rattle.affinity.specs.answers.List.{firstOutside, hashAnswer, slotAnswer};
-ghost use Rattle.affinity.specs.steps.List.{maskAnswer};
+ghost use Rattle.affinity.specs.answers.List.{firstOutside, maskAnswer, hashAnswer, slotAnswer};
 ghost use Rattle.affinity.specs.facts.List.{HashDemands, SlotDemands};
-
-// The mask of a list, or the number and the place of what is wrong with it.
-struct ListMask {
-    number: u32,
-    place: usize,
-    mask: u64,
-}
 
 // The hash of a list.
 pub fn list_hash(list: &[u64]) -> ListHash
@@ -79,8 +72,8 @@ pub fn list_slot(mpidr: u64, list: &[u64]) -> ListSlot
     }
 }
 
-// One pass over a list with no fault: a bit outside in one of the list is one in the or of all.
-fn list_mask(list: &[u64]) -> ListMask
+// The mask of a list. One pass over a list with no fault: a bit outside in one of the list is one in the or of all.
+pub fn list_mask(list: &[u64]) -> ListMask
     ensures { λ r. ⌜ r ≡ maskAnswer (now (list .entry)) ⌝ }
 {
     if list.len() == 0 {

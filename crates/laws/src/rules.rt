@@ -100,6 +100,9 @@ pub const LIST_MPIDR: u32 = 29;
 // An MPIDR is not in the list.
 pub const LIST_UNKNOWN: u32 = 30;
 
+// The positions of a plan do not rise, leave the affinity bits, or do not separate the list.
+pub const PLAN_POSITIONS: u32 = 40;
+
 // A blob's length, magic, total size or versions are not those of a flattened devicetree that can be read.
 pub const BLOB_HEADER: u32 = 31;
 

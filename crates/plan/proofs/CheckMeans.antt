@@ -3,21 +3,23 @@
 use mathlib.Core.Path.{_≡_, refl, sym, ap, ap₂, subst, _∙_}
 use mathlib.Core.Bool.{Bool, true, false, cond}
 use mathlib.Core.List.{List}
+use mathlib.Core.Logic.{⊎-elim}
 use Prim.Native.Nat.{ℕ, zero, suc, _<_}
 use native.Mathlib.Omega.{arith}
 use Rattle.laws.specs.declared.Fault.{Fault}
 use Rattle.laws.specs.answers.Fault.{plain, told}
 use Rattle.laws.proofs.SearchLaws.{true-false}
+use Rattle.laws.proofs.DecideLaws.{decided, eq-decides}
 use Rattle.laws.proofs.FaultLaws.{or-first, or-second}
 use Rattle.laws.proofs.FirstLaws.{Tells}
 use Rattle.laws.proofs.RuleStageLaws.{Split, split-tells, tells-as, tells-first, tells-none}
 use Rattle.laws.proofs.SecondPlaceLaws.{told-plain, else-plain}
 use Rattle.laws.proofs.VerdictLaws.{Verdict, held, once-tells}
-use Rattle.affinity.specs.declared.ListHash.{ListHash}
+use Rattle.affinity.specs.declared.ListMask.{ListMask}
 use Rattle.affinity.specs.facts.List.{ListRule}
-use Rattle.affinity.specs.answers.List.{listFault, hashAnswer}
+use Rattle.affinity.specs.answers.List.{listFault, maskAnswer}
 use Rattle.plan.specs.facts.Plan.{Positions, SeparatedAt}
-use Rattle.plan.specs.facts.Rules.{PlanRule, planStage, PlanDemands}
+use Rattle.plan.specs.facts.Rules.{PlanRule, planStage, IsPlan, PlanDemands}
 use Rattle.plan.specs.answers.Check.{badPositions, keepOf, clashes, planNumber, planFault}
 use Rattle.plan.proofs.SeparateLaws.{clear-separates, separates-clear}
 use Rattle.plan.proofs.PositionLaws.{good-sound, sound-good}
@@ -34,7 +36,7 @@ module _ (list positions : List ℕ) where
   abbrev rest : Fault
   rest = told (planNumber list positions) 0
 
-  pub check-refused : (a : ListHash) → a ≡ hashAnswer list → (a .number ≡ 0 → ⊥) → plain (a .number) (a .place) ≡ planFault list positions
+  pub check-refused : (a : ListMask) → a ≡ maskAnswer list → (a .number ≡ 0 → ⊥) → plain (a .number) (a .place) ≡ planFault list positions
   unfolding planFault
   check-refused a e ne =
       let t = list-refused list a e ne in
@@ -43,7 +45,7 @@ module _ (list positions : List ℕ) where
       ∙ sym (or-first (listFault list) rest (t .0))
 
   pub check-accepted :
-      (a : ListHash) → a ≡ hashAnswer list → a .number ≡ 0 → {v : ℕ} → v ≡ planNumber list positions → plain v 0 ≡ planFault list positions
+      (a : ListMask) → a ≡ maskAnswer list → a .number ≡ 0 → {v : ℕ} → v ≡ planNumber list positions → plain v 0 ≡ planFault list positions
   unfolding planFault
   check-accepted a e z {v} q =
       plain-told v ∙ ap (λ (n : ℕ). told n 0) q ∙ sym (or-second (listFault list) rest (list-accepted list a e z .0))
@@ -98,19 +100,35 @@ module _ (list positions : List ℕ) where
       (split-tells planStage (planStage 40) (omega arith) (omega arith) (list-tells list) λ _.
       once-tells planStage R 40 (omega arith) (λ m q. plan-broken) plan-told)
 
-  plan-demands : PlanDemands list positions (planFault list positions)
+  -- where no rule is broken the positions are a plan, and the other way round
+  none-plan : ((n p : ℕ) → R n p → ⊥) → IsPlan list positions
+  none-plan none =
+      let h = held plan-told (none 40 0) in
+      record { listed = λ n p r. none n p (PlanRule.ofList r); sound = h .0; separates = h .1 }
+
+  pub plan-none : IsPlan list positions → {n p : ℕ} → R n p → ⊥
+  plan-none is {n} {p} (PlanRule.ofList r) = is .listed n p r
+  plan-none is (PlanRule.planPositions bad) = bad (is .sound)
+  plan-none is (PlanRule.planSeparates bad) = bad (is .separates)
+
+  accepted : IsPlan list positions → planFault list positions .number ≡ 0
+  accepted is =
+      ⊎-elim (λ z. z) (λ ne. absurd (plan-none is (tells-first (λ n p. plan-staged) plan-tells ne .broken)))
+      (decided (eq-decides (planFault list positions .number) 0))
+
+  -- a plan that is not refused is one
+  pub plan-sound : planFault list positions .number ≡ 0 → IsPlan list positions
+  plan-sound z = none-plan (tells-none (λ n p. plan-staged) plan-tells z)
+
+  pub plan-demands : PlanDemands list positions (planFault list positions)
   unfolding planFault
   plan-demands =
       record {
+        exactly = (plan-sound, accepted);
         refused = tells-first (λ n p. plan-staged) plan-tells;
-        sound = tells-none (λ n p. plan-staged) plan-tells;
         place = λ z. ap (λ (f : Fault). f .place) (plan-tells .none z .0);
         second = else-plain (listFault list) rest (fault-plain list) (told-plain (planNumber list positions) 0);
       }
 
   pub check-meets : {r : Fault} → r ≡ planFault list positions → (r ≡ planFault list positions) × PlanDemands list positions r
   check-meets e = (e, subst (PlanDemands list positions) (sym e) plan-demands)
-
-  -- a plan that is not refused is one
-  pub plan-sound : planFault list positions .number ≡ 0 → Positions positions × SeparatedAt list positions
-  plan-sound z = held plan-told (λ r. plan-demands .sound z 40 0 r)

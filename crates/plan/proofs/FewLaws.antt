@@ -4,7 +4,6 @@ use mathlib.Core.Path.{_≡_, ap, _∙_}
 use mathlib.Core.Logic.{⊎-elim}
 use mathlib.Core.List.{List}
 use Prim.Native.Nat.{ℕ, suc, _+_, _-_, _≤_, _<_}
-use native.Mathlib.Decide.{le-ind}
 use native.Mathlib.Omega.{arith}
 use lib.ListN.{length, getD}
 use Rattle.laws.specs.facts.Digit.{digit}
@@ -16,15 +15,9 @@ use Rattle.affinity.specs.answers.Level.{lowOf, widthOf}
 use Rattle.affinity.specs.answers.Hash.{bitsBelow}
 use Rattle.affinity.proofs.AffineLaws.{bit-level}
 use Rattle.affinity.proofs.LevelLaws.{part-lt, part-digit, low-width, in-field}
-
-sum-mono : (f : ℕ → ℕ) (i j : ℕ) → i ≤ j → sumBelow f i ≤ sumBelow f j
-unfolding sumBelow
-sum-mono f i j le = le-ind (λ (k : ℕ). sumBelow f i ≤ sumBelow f k) (omega arith) (λ k _ h. omega arith) j le
+use Rattle.affinity.proofs.SlotLaws.{bits-mono}
 
 module _ (m : ℕ) where
-  bits-mono : (i j : ℕ) → i ≤ j → bitsBelow m i ≤ bitsBelow m j
-  bits-mono = sum-mono (λ level. widthOf (levelPart m level))
-
   -- where a one of the mask goes in a slot: its level, and its place in the level's width
   record Spot (k : ℕ) : Type 0 where
     level : ℕ
@@ -55,14 +48,14 @@ module _ (m : ℕ) where
 
   spot-lt : (k : ℕ) (s : Spot k) → at s < bitsBelow m 4
   unfolding sumBelow
-  spot-lt k s = omega (arith, s .inside, bits-mono (suc (s .level)) 4 (s .few))
+  spot-lt k s = omega (arith, s .inside, bits-mono m (suc (s .level)) 4 (s .few))
 
   spot-apart : (k j : ℕ) (s : Spot k) (t : Spot j) → at s ≡ at t → k ≡ j
   unfolding sumBelow
   spot-apart k j s t e =
       ⊎-elim
-      (λ lt. absurd (omega (arith, e, s .inside, bits-mono (suc (s .level)) (t .level) lt)))
-      (⊎-elim same (λ lt. absurd (omega (arith, e, t .inside, bits-mono (suc (t .level)) (s .level) lt))))
+      (λ lt. absurd (omega (arith, e, s .inside, bits-mono m (suc (s .level)) (t .level) lt)))
+      (⊎-elim same (λ lt. absurd (omega (arith, e, t .inside, bits-mono m (suc (t .level)) (s .level) lt))))
       (compared (s .level) (t .level))
     where
       same : s .level ≡ t .level → k ≡ j

@@ -12,5 +12,5 @@ pub mod CheckMeans
 pub mod SlotLaws
 pub mod SlotMeans
 pub mod PlannerMeans
+pub mod PlaceLaws
 pub mod UniqueLaws
-pub mod Cases

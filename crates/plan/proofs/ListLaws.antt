@@ -1,7 +1,6 @@
 -- SPDX-License-Identifier: BSD-2-Clause OR GPL-2.0-or-later
 -- What `affinity` tells of a list, in the order of a plan's rules, and its two ways out. Assumes nothing.
 use mathlib.Core.Path.{_≡_, refl, sym, ap, _∙_}
-use mathlib.Core.Bool.{Bool, true, false}
 use mathlib.Core.List.{List}
 use Prim.Native.Nat.{ℕ, _<_}
 use native.Mathlib.Omega.{arith}
@@ -15,11 +14,11 @@ use Rattle.laws.proofs.OrElseLaws.{or-clear}
 use Rattle.laws.proofs.RuleStageLaws.{first-clears}
 use Rattle.laws.proofs.SecondPlaceLaws.{Plain, told-plain, else-plain, first-plain}
 use Rattle.laws.proofs.FirstLaws.{Tells}
-use Rattle.affinity.specs.declared.ListHash.{ListHash}
+use Rattle.affinity.specs.declared.ListMask.{ListMask}
 use Rattle.affinity.specs.facts.List.{ListRule, listStage}
 use Rattle.affinity.specs.answers.Mask.{maskOf}
-use Rattle.affinity.specs.answers.Hash.{hashOfMask}
-use Rattle.affinity.specs.answers.List.{lengthFault, bitFault, firstOutside, listFault, hashAnswer}
+use Rattle.affinity.specs.answers.List.{lengthFault, bitFault, firstOutside, listFault, maskAnswer, hashAnswer}
+use Rattle.affinity.proofs.ListLaws.{mask-refused, mask-accepted}
 use Rattle.affinity.proofs.ListMeans.{hash-meets}
 use Rattle.plan.specs.facts.Rules.{planStage}
 
@@ -30,32 +29,18 @@ module _ (list : List ℕ) where
   abbrev fault : ℕ
   fault = listFault list .number
 
-  -- the answer of `list_hash`, told by its number
+  -- the answer of `list_mask`, told by its number
   pub list-refused :
-      (a : ListHash) →
-      a ≡ hashAnswer list →
+      (a : ListMask) →
+      a ≡ maskAnswer list →
       (a .number ≡ 0 → ⊥) →
       (fault ≡ 0 → ⊥) × (a .number ≡ fault) × (a .place ≡ listFault list .place)
-  unfolding hashAnswer
-  list-refused a e ne = go (eqb fault 0) refl e
-    where
-      go :
-          (t : Bool) →
-          eqb fault 0 ≡ t →
-          a ≡ hashAnswer list →
-          (fault ≡ 0 → ⊥) × (a .number ≡ fault) × (a .place ≡ listFault list .place)
-      go true f g = absurd (ne (ap (λ (x : ListHash). x .number) (rw f at g)))
-      go false f g =
-          let h = rw f at g in
-          (eqb-false fault 0 f, ap (λ (x : ListHash). x .number) h, ap (λ (x : ListHash). x .place) h)
+  list-refused a e ne =
+      let r = mask-refused list a e ne in
+      (eqb-false fault 0 (r .0), ap (λ (x : ListMask). x .number) (r .1), ap (λ (x : ListMask). x .place) (r .1))
 
-  pub list-accepted : (a : ListHash) → a ≡ hashAnswer list → a .number ≡ 0 → (fault ≡ 0) × (a .hash .mask ≡ maskOf list)
-  unfolding hashAnswer hashOfMask
-  list-accepted a e z = go (eqb fault 0) refl e
-    where
-      go : (t : Bool) → eqb fault 0 ≡ t → a ≡ hashAnswer list → (fault ≡ 0) × (a .hash .mask ≡ maskOf list)
-      go true f g = (eqb-true fault 0 f, ap (λ (x : ListHash). x .hash .mask) (rw f at g))
-      go false f g = absurd (eqb-false fault 0 f (sym (ap (λ (x : ListHash). x .number) (rw f at g)) ∙ z))
+  pub list-accepted : (a : ListMask) → a ≡ maskAnswer list → a .number ≡ 0 → (fault ≡ 0) × (a .mask ≡ maskOf list)
+  list-accepted a e z = let r = mask-accepted list a e z in (eqb-true fault 0 (r .0), r .1)
 
   -- the demands on the hash, said of the fault
   pub fault-first : (fault ≡ 0 → ⊥) → First listStage R fault (listFault list .place)

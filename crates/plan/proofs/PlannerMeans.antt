@@ -20,7 +20,7 @@ use Rattle.affinity.specs.steps.List.{AllAffine}
 use Rattle.affinity.proofs.HashMeans.{hash-is, hash-unique}
 use Rattle.affinity.proofs.ListLaws.{fault-affine}
 use Rattle.plan.specs.declared.Plan.{Plan}
-use Rattle.plan.specs.facts.Rules.{PlanRule}
+use Rattle.plan.specs.facts.Rules.{IsPlan}
 use Rattle.plan.specs.facts.Planner.{positionsOf, MakeAccepted, MakeDemands}
 use Rattle.plan.specs.answers.Planner.{planOf, planWith, planAnswer}
 use Rattle.plan.proofs.PositionLaws.{positions-few}
@@ -59,10 +59,8 @@ module _ (list : List ℕ) where
     room : length l ≤ 32
     room = positions-few l (plan-positions list affine)
 
-    accepted : {n p : ℕ} → PlanRule list l n p → ⊥
-    accepted {n} {p} (PlanRule.ofList r) = fault-none list sound n p r
-    accepted (PlanRule.planPositions bad) = bad (plan-positions list affine)
-    accepted (PlanRule.planSeparates bad) = bad (plan-separates list affine)
+    accepted : IsPlan list l
+    accepted = record { listed = fault-none list sound; sound = plan-positions list affine; separates = plan-separates list affine }
 
     few : (h : Hash) → IsHash list h → length l ≤ h .bits
     unfolding hashOfMask
@@ -78,14 +76,14 @@ module _ (list : List ℕ) where
         let thin = plan-thinned list affine in
         record {
           place = refl;
-          accepted = λ n p r. accepted (rw same at r);
+          accepted = rw same accepted;
           thinned = rw same thin;
           few = few;
           minimal = λ i lt s. thinned-minimal list l thin i lt (rw same at s);
           room = room;
         }
 
-  make-demands : MakeDemands list (planAnswer list)
+  pub make-demands : MakeDemands list (planAnswer list)
   unfolding planAnswer
   make-demands = go (eqb (listFault list .number) 0) refl
     where

@@ -12,7 +12,7 @@ use Rattle.laws.specs.answers.Fault.{told, orElse}
 use Rattle.laws.specs.answers.Search.{isAmong}
 use Rattle.laws.proofs.DecideLaws.{among-decides}
 use Rattle.laws.proofs.FirstLaws.{Tells}
-use Rattle.laws.proofs.RuleStageLaws.{Split, split-tells, tells-as, tells-first, tells-none}
+use Rattle.laws.proofs.RuleStageLaws.{Split, split-tells, tells-as, tells-first}
 use Rattle.laws.proofs.TestedLaws.{Decided, decide-cases}
 use Rattle.laws.proofs.VerdictLaws.{Verdict, once-tells}
 use Rattle.affinity.specs.declared.ListSlot.{ListSlot}
@@ -65,7 +65,7 @@ module _ (list positions : List ℕ) (mpidr : ℕ) where
       (split-tells planStage (planStage 30) (omega arith) (omega arith) (plan-tells list positions) λ _.
       once-tells planStage S 30 (omega arith) (λ m q. unknown-broken) unknown-told)
 
-  slot-demands : PlanSlotDemands list positions mpidr (planSlot mpidr list positions)
+  pub slot-demands : PlanSlotDemands list positions mpidr (planSlot mpidr list positions)
   unfolding planSlot
   slot-demands = go (eqb fault 0) refl (isAmong list mpidr) refl
     where
@@ -77,17 +77,18 @@ module _ (list positions : List ℕ) (mpidr : ℕ) where
           PlanSlotDemands list positions mpidr (planSlot mpidr list positions)
       go true e true f =
           let is = slot-is positions mpidr in
-          let separates = plan-sound list positions (eqb-true fault 0 e) .1 in
+          let plan = plan-sound list positions (eqb-true fault 0 e) in
           let listed = among-decides list mpidr .0 f in
           rw (e, f)
           (record {
             refused = λ ne. absurd (ne refl);
             sound = λ z.
                 record {
-                  none = (rw (e, f) at (tells-none (λ n p. slot-staged) slot-tells)) z;
+                  plan = plan;
+                  listed = listed;
                   place = refl;
                   slot = is;
-                  distinct = λ other m a. slots-distinct separates m listed a is;
+                  distinct = λ other m a. slots-distinct (plan .separates) m listed a is;
                 };
           })
       go true e false f =

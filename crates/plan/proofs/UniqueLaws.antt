@@ -14,8 +14,9 @@ use Rattle.laws.proofs.FirstLaws.{first-unique}
 use Rattle.affinity.specs.declared.ListSlot.{ListSlot}
 use Rattle.affinity.specs.facts.List.{ListRule, listStage}
 use Rattle.plan.specs.declared.Plan.{Plan}
-use Rattle.plan.specs.facts.Rules.{PlanRule, PlanSlotRule, planStage, PlanDemands, PlanSlotDemands}
+use Rattle.plan.specs.facts.Rules.{PlanRule, PlanSlotRule, planStage, PlanDemands, PlanSlotAccepted, PlanSlotDemands}
 use Rattle.plan.specs.facts.Planner.{positionsOf, MakeAccepted, MakeDemands}
+use Rattle.plan.proofs.CheckMeans.{plan-none}
 use Rattle.plan.proofs.SlotLaws.{slot-one}
 use Rattle.plan.proofs.MinimalLaws.{thinned-unique}
 
@@ -43,13 +44,17 @@ module _ (list positions : List ℕ) where
       by-number {A = (a .number ≡ b .number) × (a .place ≡ b .place)} (a .number) (b .number)
       (λ x y. first-unique planStage (PlanRule list positions) _ _ _ _ (h .refused x) (g .refused y))
       (λ x y. (x ∙ sym y, h .place x ∙ sym (g .place y)))
-      (λ x y. g .sound y (a .number) (a .place) (h .refused x .broken))
-      (λ x y. h .sound x (b .number) (b .place) (g .refused y .broken)) in
+      (λ x y. plan-none list positions (g .exactly .0 y) (h .refused x .broken))
+      (λ x y. plan-none list positions (h .exactly .0 x) (g .refused y .broken)) in
       ap₂ (λ (n p : ℕ). fault n p (a .second)) (t .0) (t .1) ∙ ap (fault (b .number) (b .place)) (h .second ∙ sym (g .second))
 
   module _ (mpidr : ℕ) where
     abbrev slot : ℕ → ℕ → ℕ → ListSlot
     slot number place s = record { number = number; place = place; slot = s }
+
+    accepted-none : {r : ListSlot} → PlanSlotAccepted list positions mpidr r → {n p : ℕ} → PlanSlotRule list positions mpidr n p → ⊥
+    accepted-none h (PlanSlotRule.ofPlan r) = plan-none list positions (h .plan) r
+    accepted-none h (PlanSlotRule.listUnknown out) = out (h .listed)
 
     pub plan-slot-unique : (a b : ListSlot) → PlanSlotDemands list positions mpidr a → PlanSlotDemands list positions mpidr b → a ≡ b
     plan-slot-unique a b h g =
@@ -64,8 +69,8 @@ module _ (list positions : List ℕ) where
         let p = h .sound x in
         let q = g .sound y in
         (x ∙ sym y, p .place ∙ sym (q .place), slot-one (p .slot) (q .slot)))
-        (λ x y. g .sound y .none (a .number) (a .place) (h .refused x .first .broken))
-        (λ x y. h .sound x .none (b .number) (b .place) (g .refused y .first .broken)) in
+        (λ x y. accepted-none (g .sound y) (h .refused x .first .broken))
+        (λ x y. accepted-none (h .sound x) (g .refused y .first .broken)) in
         ap₂ (λ (n p : ℕ). slot n p (a .slot)) (t .0) (t .1) ∙ ap (slot (b .number) (b .place)) (t .2)
 
 module _ (list : List ℕ) where
@@ -92,8 +97,8 @@ module _ (list : List ℕ) where
       let t =
       by-number {A = Same a b} (a .number) (b .number)
       refused sound
-      (λ x y. g .sound y .accepted (a .number) (a .place) (PlanRule.ofList (h .refused x .first .broken)))
-      (λ x y. h .sound x .accepted (b .number) (b .place) (PlanRule.ofList (g .refused y .first .broken))) in
+      (λ x y. g .sound y .accepted .listed (a .number) (a .place) (h .refused x .first .broken))
+      (λ x y. h .sound x .accepted .listed (b .number) (b .place) (g .refused y .first .broken)) in
       ap₂ (λ (n p : ℕ). plan n p (a .count) (a .positions)) (t .0) (t .1)
       ∙ ap₂ (λ (c : ℕ) (l : List ℕ). plan (b .number) (b .place) c l) (t .2) (t .3)
     where

@@ -2,6 +2,7 @@
 // Whether a plan is one for a list: its positions rise in the affinity bits, and no two different MPIDRs agree at all of them.
 use laws::Fault;
 use laws::limits::NO_PROPERTY;
+use laws::rules;
 ghost use mathlib.Core.Path.{_≡_};
 ghost use Prim.Native.Nat.{_<_};
 ghost use lib.ListN.{length};
@@ -10,15 +11,12 @@ ghost use Rattle.plan.specs.facts.Rules.{PlanDemands};
 ghost use Rattle.plan.specs.answers.Check.{isBit, badPosition, badPositions, keepOf};
 ghost use Rattle.plan.specs.answers.Check.{clash, clashesAt, clashes, planNumber, planFault};
 
-// 40: the positions of a plan do not rise, leave the affinity bits, or do not separate the list.
-const PLAN_POSITIONS: u32 = 40;
-
 // 0, or the first of 28, 29 and 40.
 pub fn check_plan(list: &[u64], positions: &[u32]) -> Fault
     ensures answer { λ r. ⌜ r ≡ planFault (now (list .entry)) (now (positions .entry)) ⌝ }
     ensures demands { λ r. ⌜ PlanDemands (now (list .entry)) (now (positions .entry)) r ⌝ }
 {
-    let answer = affinity::list_hash(list);
+    let answer = affinity::list_mask(list);
     if answer.number != 0 {
         return Fault {
             number: answer.number,
@@ -39,11 +37,11 @@ fn plan_number(list: &[u64], positions: &[u32]) -> u32
     ensures { λ r. ⌜ r ≡ planNumber (now (list .entry)) (now (positions .entry)) ⌝ }
 {
     if bad_positions(positions) {
-        return PLAN_POSITIONS;
+        return rules::PLAN_POSITIONS;
     }
     let keep = keep_of(positions);
     if clashes(list, keep) {
-        return PLAN_POSITIONS;
+        return rules::PLAN_POSITIONS;
     }
     0
 }

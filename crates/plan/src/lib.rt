@@ -1,5 +1,5 @@
 // SPDX-License-Identifier: BSD-2-Clause OR GPL-2.0-or-later
-// Plans: bit positions that tell the MPIDRs of a list apart, in fewer slots than the hash has.
+// Plans: bit positions that tell the MPIDRs of a list apart, where it can be in fewer slots than the hash has.
 mod check;
 mod planner;
 mod slot;

@@ -17,7 +17,7 @@ pub fn plan_of(list: &[u64]) -> Plan
     ensures answer { λ r. ⌜ r ≡ planAnswer (now (list .entry)) ⌝ }
     ensures demands { λ r. ⌜ MakeDemands (now (list .entry)) r ⌝ }
 {
-    let answer = affinity::list_hash(list);
+    let answer = affinity::list_mask(list);
     if answer.number != 0 {
         return Plan {
             number: answer.number,
@@ -26,8 +26,7 @@ pub fn plan_of(list: &[u64]) -> Plan
             positions: [0; 32],
         };
     }
-    let mask = answer.hash.mask;
-    ones_of(thinned(list, mask))
+    ones_of(thinned(list, answer.mask))
 }
 
 // What is left of the mask once each bit was tried.

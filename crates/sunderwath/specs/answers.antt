@@ -3,6 +3,7 @@
 pub mod Answer
 pub mod Board
 pub mod List
+pub mod Plan
 pub mod Tables
 pub mod Flat
 pub mod Bytes

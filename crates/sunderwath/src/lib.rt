@@ -3,7 +3,9 @@
 mod answer;
 mod bytes;
 mod check;
+mod front;
 mod image;
 mod list;
+mod plans;
 mod read;
 mod slots;

@@ -3,3 +3,4 @@
 pub mod Worked
 pub mod Blobs
 pub mod Bytes
+pub mod Plans

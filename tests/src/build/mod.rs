@@ -19,6 +19,7 @@ pub mod lookup;
 pub mod mix;
 pub mod order;
 pub mod overlap;
+pub mod plans;
 pub mod property_faults;
 pub mod shapes;
 pub mod shrink;

@@ -26,7 +26,7 @@ pub(super) fn slot(mpidr: u64, mask: u64, shifts: &[u32; 4]) -> u32 {
     (level(0) | level(1) | level(2) | level(3)) as u32
 }
 
-fn list_mask(list: &[u64]) -> Result<u64, Answer> {
+pub(super) fn list_mask(list: &[u64]) -> Result<u64, Answer> {
     let first = match list.first() {
         Some(&first) if list.len() <= 256 => first,
         _ => return Err(Answer::refusal(28, 0)),

@@ -70,7 +70,7 @@ pub(super) fn slot(mask: u64, mpidr: u64) -> u32 {
 }
 
 /// 28 and 29.
-fn list_refusal(list: &[u64]) -> Option<Answer> {
+pub(super) fn list_refusal(list: &[u64]) -> Option<Answer> {
     if list.is_empty() || list.len() > 256 {
         return Some(Answer::refusal(28, 0));
     }

@@ -13,6 +13,7 @@ mod flat_why;
 mod hash;
 mod lookup;
 mod once;
+mod plan;
 mod rows;
 mod rules;
 mod second_place;
@@ -24,6 +25,7 @@ pub use flat::{flat_answer, flat_tables, read_flat, word_at, FlatTables, Reading
 pub use flat_why::{Why, REASONS};
 pub use hash::{list_hash, list_slot};
 pub use lookup::{find_property, fixed_lookup, Standing};
+pub use plan::{plan_check, plan_make, plan_slot};
 pub use rows::read;
 pub use rules::{stage_of, told};
 pub use slots::{read_slots, ReadSlots, SLOT_NUMBERS};

@@ -10,8 +10,10 @@ use Rattle.laws.specs.declared.Fault.{Fault}
 use Rattle.laws.specs.answers.Fault.{told, orElse, firstFault}
 use Rattle.laws.specs.answers.Search.{isAmong}
 use Rattle.affinity.specs.declared.ListHash.{ListHash}
+use Rattle.affinity.specs.declared.ListMask.{ListMask}
 use Rattle.affinity.specs.declared.ListSlot.{ListSlot}
 use Rattle.affinity.specs.answers.Level.{isAffine}
+use Rattle.affinity.specs.answers.Mask.{maskOf}
 use Rattle.affinity.specs.facts.List.{noHash}
 use Rattle.affinity.specs.answers.Hash.{hashOf, slotIn}
 
@@ -31,7 +33,13 @@ firstOutside list = firstFault (λ i. bitFault (getD list i 0)) (length list)
 unfoldable pub listFault : List ℕ → Fault
 listFault list = orElse (told (lengthFault (length list)) 0) (firstOutside list)
 
--- the answer to "the hash of a list": in a refusal every other result is 0
+-- the answer to "the mask of a list": in a refusal every other result is 0
+unfoldable pub maskAnswer : List ℕ → ListMask
+maskAnswer list =
+    cond (eqb (listFault list .number) 0) (record { number = 0; place = 0; mask = maskOf list })
+    (record { number = listFault list .number; place = listFault list .place; mask = 0 })
+
+-- the answer to "the hash of a list", with the same refusals
 unfoldable pub hashAnswer : List ℕ → ListHash
 hashAnswer list =
     cond (eqb (listFault list .number) 0) (record { number = 0; place = 0; hash = hashOf list })

@@ -13,7 +13,7 @@ use Rattle.affinity.specs.facts.List.{ListRule, listStage}
 use Rattle.affinity.specs.facts.Mask.{Differ}
 use Rattle.plan.specs.declared.Plan.{Plan}
 use Rattle.plan.specs.facts.Plan.{Separates, SeparatedAt, dropAt}
-use Rattle.plan.specs.facts.Rules.{PlanRule}
+use Rattle.plan.specs.facts.Rules.{IsPlan}
 
 -- the positions of a plan: the first `count` of its array
 abbrev pub positionsOf : Plan → List ℕ
@@ -40,7 +40,7 @@ pub record MakeRefused (list : List ℕ) (r : Plan) : Type 0 where
 -- an acceptance: the plan is accepted, has no more positions than the hash has bits, and none of them can be dropped
 pub record MakeAccepted (list : List ℕ) (r : Plan) : Type 0 where
   pub place : r .place ≡ 0
-  pub accepted : (n p : ℕ) → PlanRule list (positionsOf r) n p → ⊥
+  pub accepted : IsPlan list (positionsOf r)
   pub thinned : Thinned list (positionsOf r)
   pub few : (h : Hash) → IsHash list h → r .count ≤ h .bits
   pub minimal : (i : ℕ) → i < r .count → SeparatedAt list (dropAt i (positionsOf r)) → ⊥

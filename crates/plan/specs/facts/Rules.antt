@@ -1,6 +1,7 @@
 -- SPDX-License-Identifier: BSD-2-Clause OR GPL-2.0-or-later
 -- Rules 28, 29, 40 and 30 of a plan, and what is demanded of the answers about it (02, W8).
 use mathlib.Core.List.{List, [], _∷_}
+use mathlib.Core.Logic.{_↔_}
 use mathlib.Core.Path.{_≡_}
 use Prim.Native.Nat.{ℕ}
 use Rattle.laws.specs.declared.Fault.{Fault}
@@ -29,10 +30,16 @@ planStages = (28 ∷ []) ∷ (29 ∷ []) ∷ (40 ∷ []) ∷ (30 ∷ []) ∷ []
 abbrev pub planStage : ℕ → ℕ
 planStage = stageIn planStages
 
--- a plan is accepted exactly where no rule is broken; otherwise the first broken one is told
+-- positions are a plan for a list: the list keeps its rules, the positions rise in the affinity bits, and they separate the list
+pub record IsPlan (list positions : List ℕ) : Type 0 where
+  pub listed : (n p : ℕ) → ListRule list n p → ⊥
+  pub sound : Positions positions
+  pub separates : SeparatedAt list positions
+
+-- accepted exactly when the positions are a plan for the list; otherwise the first broken rule is told
 pub record PlanDemands (list positions : List ℕ) (r : Fault) : Type 0 where
+  pub exactly : (r .number ≡ 0) ↔ IsPlan list positions
   pub refused : (r .number ≡ 0 → ⊥) → First planStage (PlanRule list positions) (r .number) (r .place)
-  pub sound : r .number ≡ 0 → (n p : ℕ) → PlanRule list positions n p → ⊥
   pub place : r .number ≡ 0 → r .place ≡ 0
   pub second : r .second ≡ noProperty
 
@@ -41,9 +48,10 @@ pub record PlanSlotRefused (list positions : List ℕ) (mpidr : ℕ) (r : ListSl
   pub first : First planStage (PlanSlotRule list positions mpidr) (r .number) (r .place)
   pub slot : r .slot ≡ 0
 
--- an acceptance: no rule is broken, the slot is that under the plan, and no other listed MPIDR has it
+-- an acceptance: the slot of a listed MPIDR is that under the plan, and no other listed one has it
 pub record PlanSlotAccepted (list positions : List ℕ) (mpidr : ℕ) (r : ListSlot) : Type 0 where
-  pub none : (n p : ℕ) → PlanSlotRule list positions mpidr n p → ⊥
+  pub plan : IsPlan list positions
+  pub listed : Member list mpidr
   pub place : r .place ≡ 0
   pub slot : PlanSlot positions mpidr (r .slot)
   pub distinct : (other : ℕ) → Member list other → PlanSlot positions other (r .slot) → other ≡ mpidr

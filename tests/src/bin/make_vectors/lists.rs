@@ -4,12 +4,10 @@
 use crate::vector::{number, some_answer, unless_short, Call, Ground, Part, Vector};
 use sunderwath_tests::answer::ANSWER_WORDS;
 use sunderwath_tests::build::cases::lists;
+use sunderwath_tests::build::plans::{some_mpidr, AFFINITY};
 use sunderwath_tests::build::slots::{mpidrs_with_bits, ALL_BITS};
 use sunderwath_tests::rng::Rng;
 use sunderwath_tests::second::{self, list_bytes, BYTES_ANSWER};
-
-/// The affinity bits.
-const AFFINITY: u64 = 0xFF_00FF_FFFF;
 
 /// Lists made at random.
 const ANY: usize = 1_500;
@@ -35,7 +33,7 @@ pub fn vectors(rng: &mut Rng) -> Vec<Vector> {
 }
 
 /// A list whose hash has some bits; MPIDRs repeated and bad ones at times.
-fn some_list(rng: &mut Rng) -> Vec<u64> {
+pub fn some_list(rng: &mut Rng) -> Vec<u64> {
     let bits = rng.below(ALL_BITS as usize + 1) as u32;
     let most = if bits < 5 { 1 << bits } else { 24 };
     let count = if bits == 0 { 1 } else { rng.between(2, most) };
@@ -49,16 +47,6 @@ fn some_list(rng: &mut Rng) -> Vec<u64> {
         list[at] |= 1 << rng.below(64);
     }
     list
-}
-
-/// A listed MPIDR, one with another bit, or any.
-fn some_mpidr(rng: &mut Rng, list: &[u64]) -> u64 {
-    let listed = *rng.pick(list);
-    match rng.below(4) {
-        0 => listed ^ 1 << rng.below(64),
-        1 => rng.wide() & AFFINITY,
-        _ => listed,
-    }
 }
 
 fn all_calls(rng: &mut Rng, list: &[u64], mpidr: u64) -> [Vector; 3] {

@@ -12,6 +12,7 @@ mod boards;
 mod file;
 mod lists;
 mod lookups;
+mod plans;
 mod tally;
 mod vector;
 mod whose;
@@ -31,6 +32,7 @@ fn vectors() -> Vec<Vector> {
     list.extend(lookups::vectors(&mut rng));
     list.extend(boards::vectors(&mut rng));
     list.extend(blobs::vectors(&mut rng));
+    list.extend(plans::vectors(&mut rng));
     list
 }
 
@@ -45,9 +47,10 @@ fn summary(tally: &Tally) -> String {
     let boards = sum(tally, &[ReadTables, ReadTablesSlots, ReadBlob]);
     let (read, filled) = (sum(tally, &[ReadBlob]), sum(tally, &[ReadFlat]));
     let lists = sum(tally, &[ListHash, ListSlot, Slot]);
+    let plans = sum(tally, &[PlanCheck, PlanSlot, PlanMake]);
     let others = sum(tally, &[CheckTables, FindProperty]);
-    let boards = format!("{boards} boards ({read} of them blobs)");
-    format!("{boards}, {filled} blobs to tables, {lists} lists, {others} checks and lookups")
+    let boards = format!("{boards} boards ({read} of them blobs), {filled} blobs to tables");
+    format!("{boards}, {lists} lists, {plans} plans, {others} checks and lookups")
 }
 
 fn write(folder: &Path) -> Result<(), String> {

@@ -26,8 +26,10 @@ pub struct Tally(BTreeMap<(Call, u32), usize>);
 fn of_call(call: Call) -> BTreeSet<u32> {
     let short = [0, SHORT_ANSWER].into_iter();
     match call {
-        Call::ListHash => short.chain([28, 29]).collect(),
+        Call::ListHash | Call::PlanMake => short.chain([28, 29]).collect(),
         Call::ListSlot | Call::Slot => short.chain([28, 29, 30]).collect(),
+        Call::PlanCheck => short.chain([28, 29, 40]).collect(),
+        Call::PlanSlot => short.chain([28, 29, 40, 30]).collect(),
         Call::CheckTables => short.chain(1..=8).collect(),
         Call::FindProperty => [FOUND, MISSING].into_iter().collect(),
         Call::ReadTables => short.chain(numbers()).collect(),

@@ -17,10 +17,13 @@ pub enum Call {
     ReadFlat,
     ReadBlob,
     Slot,
+    PlanCheck,
+    PlanSlot,
+    PlanMake,
 }
 
 impl Call {
-    pub const ALL: [Call; 9] = [
+    pub const ALL: [Call; 12] = [
         Call::ListHash,
         Call::ListSlot,
         Call::CheckTables,
@@ -30,6 +33,9 @@ impl Call {
         Call::ReadFlat,
         Call::ReadBlob,
         Call::Slot,
+        Call::PlanCheck,
+        Call::PlanSlot,
+        Call::PlanMake,
     ];
 
     pub fn name(self) -> &'static str {
@@ -43,6 +49,9 @@ impl Call {
             Call::ReadFlat => "read_flat",
             Call::ReadBlob => "read_blob",
             Call::Slot => "slot",
+            Call::PlanCheck => "plan_check",
+            Call::PlanSlot => "plan_slot",
+            Call::PlanMake => "plan_make",
         }
     }
 }

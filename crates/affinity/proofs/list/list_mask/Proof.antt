@@ -2,8 +2,7 @@
 -- `list_mask` tests the length, and then the or of the list for a bit outside. Assumes nothing.
 use borrow.Author.Tests.{eq-eqb, ne-eqb, lt-ltb, not-true, not-false}
 use Rattle.affinity.specs.steps.Mask.{gathered}
-use Rattle.affinity.specs.answers.List.{listFault}
-use Rattle.affinity.specs.steps.List.{maskAnswer}
+use Rattle.affinity.specs.answers.List.{listFault, maskAnswer}
 use Rattle.affinity.proofs.ListLaws.{some-clear, some-told, fault-within}
 use borrow.Author.Needs.{needs}
 use Rattle.affinity.proofs.list.list_mask.Statement.{statement}

@@ -5,14 +5,14 @@ use borrow.Author.Needs.{needs}
 use Rattle.plan.proofs.check.check_plan.Statement.{statement}
 use Rattle.plan.proofs.check.check_plan.Tie as tie
 
-list-hash-requires : tie.Need-list-hash-requires
-list-hash-requires c κs = search needs
+list-mask-requires : tie.Need-list-mask-requires
+list-mask-requires c κs = search needs
 
 returns : tie.Need-returns
 returns c =
     let a = c .before .before .before .before .before .args in
-    let list = c .before .before .list-hash in
-    check-meets _ _ (check-refused (a .list .now) (a .positions .now) (list .result) (list .ensures .0) (c .if1 .taken))
+    let list = c .before .before .list-mask in
+    check-meets _ _ (check-refused (a .list .now) (a .positions .now) (list .result) (list .ensures) (c .if1 .taken))
 
 plan-number-requires : tie.Need-plan-number-requires
 plan-number-requires c κs = search needs
@@ -20,9 +20,9 @@ plan-number-requires c κs = search needs
 returns-2 : tie.Need-returns-2
 returns-2 c =
     let a = c .before .before .before .before .before .before .args in
-    let list = c .before .before .before .list-hash in
+    let list = c .before .before .before .list-mask in
     check-meets _ _
-    (check-accepted (a .list .now) (a .positions .now) (list .result) (list .ensures .0) (c .before .if1 .left) (c .plan-number .ensures))
+    (check-accepted (a .list .now) (a .positions .now) (list .result) (list .ensures) (c .before .if1 .left) (c .plan-number .ensures))
 
 pub check-plan-spec : {M : Type 1} → statement M
-check-plan-spec = tie.close (tie.spec list-hash-requires returns plan-number-requires returns-2)
+check-plan-spec = tie.close (tie.spec list-mask-requires returns plan-number-requires returns-2)

@@ -32,7 +32,7 @@ slot-under-requires : tie.Need-slot-under-requires
 slot-under-requires c κs =
     let fault = c .before .before .before .before .check-plan in
     let a = c .before .before .before .before .before .before .before .args in
-    plan-sound (a .list .now) (a .positions .now) (rw (fault .ensures .0) at (c .before .before .if1 .left)) .0
+    plan-sound (a .list .now) (a .positions .now) (rw (fault .ensures .0) at (c .before .before .if1 .left)) .sound
 
 returns-3 : tie.Need-returns-3
 unfolding planSlot
