@@ -444,7 +444,7 @@ uint32_t sunderwath_list_slot(uint64_t mpidr, const uint64_t *list, size_t n,
 /*
  * Whether positions are a plan for a list of 1 to 256 MPIDRs, repeats allowed.
  * Tells 28, 29 or 40. Compares each pair of MPIDRs at most once: with 256 of
- * them 32,640 comparisons.
+ * them at most 32,640 comparisons.
  */
 uint32_t sunderwath_plan_check(const uint64_t *list, size_t list_n,
                                const uint32_t *positions, size_t positions_n,
@@ -453,9 +453,9 @@ uint32_t sunderwath_plan_check(const uint64_t *list, size_t list_n,
 /*
  * The slot of one MPIDR of a list under a plan for the list, which is checked
  * first, with all comparisons that sunderwath_plan_check makes. Tells 28, 29,
- * 40 or 30. Word 2 of the answer is the slot. Of the register's value `mpidr`
- * is the affinity bits alone (and with 0xFF00FFFFFF): with any other bit it is
- * not in the list, and 30 is told.
+ * 40 or 30. Word 2 of the answer is the slot. `mpidr` has affinity bits only,
+ * as the list has: of the register's value those under 0xFF00FFFFFF. With any
+ * other bit it is not in the list, and 30 is told.
  */
 uint32_t sunderwath_plan_slot(uint64_t mpidr,
                               const uint64_t *list, size_t list_n,
