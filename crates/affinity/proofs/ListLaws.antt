@@ -16,12 +16,14 @@ use Rattle.laws.proofs.OrElseLaws.{or-clear}
 use Rattle.affinity.specs.declared.ListMask.{ListMask}
 use Rattle.affinity.specs.declared.mask.Gathered.{Gathered}
 use Rattle.affinity.specs.answers.Level.{isAffine}
+use Rattle.affinity.specs.answers.Hash.{slotIn}
 use Rattle.affinity.specs.answers.Mask.{maskOf}
 use Rattle.affinity.specs.steps.Mask.{gathered}
 use Rattle.affinity.specs.answers.List.{lengthFault, bitFault, firstOutside, listFault, maskAnswer, hashAnswer, slotAnswer}
 use Rattle.affinity.specs.steps.List.{AllAffine}
 use Rattle.affinity.proofs.AffineLaws.{test-affine, affine-passes}
 use Rattle.affinity.proofs.MaskLaws.{some-affine, affine-some}
+use Rattle.affinity.proofs.AskedLaws.{asked-place}
 
 bit-affine : (x : ℕ) → bitFault x ≡ 0 → isAffine x ≡ true
 bit-affine x h = go (isAffine x) refl h
@@ -78,12 +80,7 @@ module _ (list : List ℕ) where
 
   pub slot-place-le : (mpidr : ℕ) → slotAnswer mpidr list .place ≤ 256
   unfolding slotAnswer
-  slot-place-le mpidr = go (eqb (listFault list .number) 0) refl (isAmong list mpidr) refl
-    where
-      go : (b : Bool) → eqb (listFault list .number) 0 ≡ b → (d : Bool) → isAmong list mpidr ≡ d → slotAnswer mpidr list .place ≤ 256
-      go true e true f = rw (e, f) (lit≤ tt)
-      go true e false f = rw (e, f) (lit≤ tt)
-      go false e d f = rw e fault-place-le
+  slot-place-le mpidr = asked-place (listFault list) (isAmong list mpidr) (slotIn list mpidr) fault-place-le
 
   -- the answer to "the mask of a list", told by its number
   abbrev accepted : ListMask

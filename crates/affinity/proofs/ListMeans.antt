@@ -8,31 +8,19 @@ use native.Mathlib.Omega.{arith}
 use lib.Dec.{eqb, ltb}
 use lib.ListN.{length, getD}
 use borrow.Author.Tests.{eqb-true, eqb-false, ltb-true, ltb-false}
-use Rattle.laws.specs.answers.Fault.{told, orElse}
-use Rattle.laws.specs.answers.Search.{isAmong}
-use Rattle.laws.specs.facts.Listing.{Member}
-use Rattle.laws.proofs.DecideLaws.{Decides, among-decides}
-use Rattle.laws.proofs.TestedLaws.{Decided, decide-cases}
 use Rattle.laws.proofs.FirstLaws.{Tells, stage-tells}
-use Rattle.laws.proofs.RuleStageLaws.{Split, split-tells, tells-as, then-tells, tells-first, tells-none}
-use Rattle.laws.proofs.VerdictLaws.{Verdict, number-stage, once-tells}
+use Rattle.laws.proofs.RuleStageLaws.{then-tells, tells-first, tells-none}
+use Rattle.laws.proofs.VerdictLaws.{Verdict, unless, number-stage, once-tells}
 use Rattle.affinity.specs.declared.ListHash.{ListHash}
 use Rattle.affinity.specs.declared.ListSlot.{ListSlot}
 use Rattle.affinity.specs.facts.Level.{Affine}
-use Rattle.affinity.specs.answers.Hash.{hashOf}
+use Rattle.affinity.specs.answers.Hash.{hashOf, slotIn}
 use Rattle.affinity.specs.answers.List.{lengthFault, bitFault, firstOutside, listFault, hashAnswer, slotAnswer}
-use Rattle.affinity.specs.facts.List.{ListRule, SlotRule, listStage, HashDemands, SlotDemands}
+use Rattle.affinity.specs.facts.List.{ListRule, listStage, HashDemands, SlotDemands}
 use Rattle.affinity.proofs.AffineLaws.{test-affine, affine-passes}
 use Rattle.affinity.proofs.ListLaws.{fault-affine}
 use Rattle.affinity.proofs.HashMeans.{hash-is}
-
--- the number told where a fact fails
-unless : {R : ℕ → ℕ → Type 0} {n p : ℕ} {P : Type 0} {t : Bool} → Decides t P → ((P → ⊥) → R n p) → Verdict R n p P (cond t 0 n)
-unless {R} {n} {p} {P} h breaks = go (decide-cases h)
-  where
-    go : {s : Bool} → Decided P s → Verdict R n p P (cond s 0 n)
-    go (Decided.holds x) = Verdict.sound x
-    go (Decided.fails x) = Verdict.broken (breaks x)
+use Rattle.affinity.proofs.AskedLaws.{asked}
 
 module _ (list : List ℕ) where
   abbrev R : ℕ → ℕ → Type 0
@@ -102,64 +90,16 @@ module _ (list : List ℕ) where
 
   -- the slot of one MPIDR: rule 30 behind those of the list
   module _ (mpidr : ℕ) where
-    abbrev S : ℕ → ℕ → Type 0
-    S = SlotRule list mpidr
-
-    abbrev unknown : ℕ
-    unknown = cond (isAmong list mpidr) 0 30
-
-    unknown-broken : {m q : ℕ} → S m q → listStage m ≡ listStage 30 → (m ≡ 30) × (q ≡ 0) × (Member list mpidr → ⊥)
-    unknown-broken (SlotRule.ofList r) e = absurd (omega (arith, list-staged r))
-    unknown-broken (SlotRule.listUnknown out) e = (refl, refl, out)
-
-    slot-staged : {n p : ℕ} → S n p → listStage n < 3
-    slot-staged (SlotRule.ofList r) = omega (arith, list-staged r)
-    slot-staged (SlotRule.listUnknown out) = omega arith
-
-    from-parts : {n p : ℕ} → Split listStage (listStage 30) R S n p → S n p
-    from-parts (Split.early r _) = SlotRule.ofList r
-    from-parts (Split.late s _) = s
-
-    to-parts : {n p : ℕ} → S n p → Split listStage (listStage 30) R S n p
-    to-parts (SlotRule.ofList r) = Split.early r (list-staged r)
-    to-parts (SlotRule.listUnknown out) = Split.late (SlotRule.listUnknown out) (omega arith)
-
-    slot-tells : Tells listStage S (listStage 28) 3 (orElse (listFault list) (told unknown 0))
-    slot-tells =
-        tells-as (λ n p. from-parts) (λ n p. to-parts)
-        (split-tells listStage (listStage 30) (omega arith) (omega arith) list-tells λ _.
-        once-tells listStage S 30 (omega arith) (λ m q. unknown-broken) (unless (among-decides list mpidr) SlotRule.listUnknown))
-
     slot-demands : SlotDemands list mpidr (slotAnswer mpidr list)
     unfolding slotAnswer
-    slot-demands = go (eqb (listFault list .number) 0) refl (isAmong list mpidr) refl
-      where
-        go : (t : Bool) → eqb (listFault list .number) 0 ≡ t → (d : Bool) → isAmong list mpidr ≡ d → SlotDemands list mpidr (slotAnswer mpidr list)
-        go true e true f =
-            rw (e, f)
-            (record {
-              refused = λ ne. absurd (ne refl);
-              sound = λ z.
-                  record {
-                    none = (rw (e, f) at (tells-none (λ n p. slot-staged) slot-tells)) z;
-                    place = refl;
-                    hash = hashOf list;
-                    is-hash = hash-is list (fault-affine list (eqb-true (listFault list .number) 0 e));
-                    slot = refl;
-                  };
-            })
-        go true e false f =
-            rw (e, f)
-            (record {
-              refused = λ ne. record { first = (rw (e, f) at (tells-first (λ n p. slot-staged) slot-tells)) ne; slot = refl };
-              sound = λ z. absurd (omega arith);
-            })
-        go false e d f =
-            rw e
-            (record {
-              refused = λ ne. record { first = (rw e at (tells-first (λ n p. slot-staged) slot-tells)) ne; slot = refl };
-              sound = λ z. absurd (eqb-false (listFault list .number) 0 e z);
-            })
+    slot-demands =
+        let t = asked listStage (λ n p. list-staged) list-tells list mpidr (slotIn list mpidr) in
+        record {
+          refused = λ ne. let r = t .0 ne in record { first = r .0; slot = r .1 };
+          sound = λ z.
+              let a = t .1 z in
+              record { none = a .4; place = a .2; hash = hashOf list; is-hash = hash-is list (fault-affine list (a .0)); slot = a .3 };
+        }
 
     pub slot-meets : {r : ListSlot} → r ≡ slotAnswer mpidr list → (r ≡ slotAnswer mpidr list) × SlotDemands list mpidr r
     slot-meets e = (e, subst (SlotDemands list mpidr) (sym e) slot-demands)

@@ -1,15 +1,26 @@
 -- SPDX-License-Identifier: BSD-2-Clause OR GPL-2.0-or-later
 -- The number told of one rule, and a stage of one rule. Assumes nothing.
 use mathlib.Core.Path.{_≡_, refl}
+use mathlib.Core.Bool.{Bool, cond}
 use Prim.Native.Nat.{ℕ, zero, suc, _<_}
 use native.Mathlib.Omega.{arith}
 use Rattle.laws.specs.answers.Fault.{told, firstFault}
+use Rattle.laws.proofs.DecideLaws.{Decides}
+use Rattle.laws.proofs.TestedLaws.{Decided, decide-cases}
 use Rattle.laws.proofs.FirstLaws.{Tells, Smallest, Stage, stage-tells}
 
 -- the number told of rule n at a place: 0 where P holds, and n where the rule is broken
 pub data Verdict (R : ℕ → ℕ → Type 0) (n p : ℕ) (P : Type 0) : ℕ → Type 0 where
   sound : P → Verdict R n p P 0
   broken : R n p → Verdict R n p P n
+
+-- the number told where a fact fails
+pub unless : {R : ℕ → ℕ → Type 0} {n p : ℕ} {P : Type 0} {t : Bool} → Decides t P → ((P → ⊥) → R n p) → Verdict R n p P (cond t 0 n)
+unless {R} {n} {p} {P} h breaks = go (decide-cases h)
+  where
+    go : {s : Bool} → Decided P s → Verdict R n p P (cond s 0 n)
+    go (Decided.holds x) = Verdict.sound x
+    go (Decided.fails x) = Verdict.broken (breaks x)
 
 -- what holds where the rule is not broken
 pub held : {R : ℕ → ℕ → Type 0} {n p v : ℕ} {P : Type 0} → Verdict R n p P v → (R n p → ⊥) → P

@@ -32,9 +32,9 @@ module _ (bytes : List ℕ) (mpidr : ℕ) where
   -- no rule has a smaller number than 28
   from-28 : {n p : ℕ} → ByteSlotRule bytes mpidr n p → 28 ≤ n
   from-28 (ByteSlotRule.listLengthPart ne) = omega arith
-  from-28 (ByteSlotRule.ofNumbers (SlotRule.ofList (ListRule.listLengthEmpty e))) = omega arith
-  from-28 (ByteSlotRule.ofNumbers (SlotRule.ofList (ListRule.listLengthMany lt))) = omega arith
-  from-28 (ByteSlotRule.ofNumbers (SlotRule.ofList (ListRule.listMpidr i lt outside))) = omega arith
+  from-28 (ByteSlotRule.ofNumbers (SlotRule.earlier (ListRule.listLengthEmpty e))) = omega arith
+  from-28 (ByteSlotRule.ofNumbers (SlotRule.earlier (ListRule.listLengthMany lt))) = omega arith
+  from-28 (ByteSlotRule.ofNumbers (SlotRule.earlier (ListRule.listMpidr i lt outside))) = omega arith
   from-28 (ByteSlotRule.ofNumbers (SlotRule.listUnknown missing)) = omega arith
 
   none-before-28 : {n p : ℕ} → 28 ≤ n → Before listStage n p 28 0 → ⊥
@@ -58,7 +58,7 @@ module _ (bytes : List ℕ) (mpidr : ℕ) where
 
   -- whole MPIDRs: what is demanded of their list
   module _ (whole : length bytes % numberSize ≡ 0) where
-    of-list : {n p : ℕ} → ByteSlotRule bytes mpidr n p → SlotRule list mpidr n p
+    of-list : {n p : ℕ} → ByteSlotRule bytes mpidr n p → SlotRule (ListRule list) list mpidr n p
     of-list (ByteSlotRule.listLengthPart ne) = absurd (ne whole)
     of-list (ByteSlotRule.ofNumbers rule) = rule
 

@@ -11,9 +11,10 @@ use Rattle.laws.specs.answers.Search.{isAmong}
 use Rattle.laws.proofs.DecideLaws.{decided, eq-decides}
 use Rattle.laws.proofs.RuleStageLaws.{told-place}
 use Rattle.affinity.specs.answers.List.{listFault}
+use Rattle.affinity.proofs.AskedLaws.{asked-place}
 use Rattle.affinity.proofs.ListLaws.{fault-place-le}
 use Rattle.plan.specs.answers.Check.{planNumber, planFault}
-use Rattle.plan.specs.answers.Slot.{planSlot}
+use Rattle.plan.specs.answers.Slot.{slotUnder, planSlot}
 use Rattle.plan.specs.answers.Planner.{planAnswer}
 use Rattle.plan.proofs.PlannerMeans.{make-demands}
 
@@ -42,14 +43,4 @@ module _ (list : List ℕ) where
 
     pub slot-place-le : (mpidr : ℕ) → planSlot mpidr list positions .place ≤ 256
     unfolding planSlot
-    slot-place-le mpidr = go (eqb (planFault list positions .number) 0) refl (isAmong list mpidr) refl
-      where
-        go :
-            (t : Bool) →
-            eqb (planFault list positions .number) 0 ≡ t →
-            (d : Bool) →
-            isAmong list mpidr ≡ d →
-            planSlot mpidr list positions .place ≤ 256
-        go true e true f = rw (e, f) (lit≤ tt)
-        go true e false f = rw (e, f) (lit≤ tt)
-        go false e d f = rw e check-place-le
+    slot-place-le mpidr = asked-place (planFault list positions) (isAmong list mpidr) (slotUnder positions mpidr) check-place-le

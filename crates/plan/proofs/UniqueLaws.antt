@@ -12,7 +12,7 @@ use Rattle.laws.proofs.SearchLaws.{lt-or-le}
 use Rattle.laws.proofs.DecideLaws.{decided, eq-decides}
 use Rattle.laws.proofs.FirstLaws.{first-unique}
 use Rattle.affinity.specs.declared.ListSlot.{ListSlot}
-use Rattle.affinity.specs.facts.List.{ListRule, listStage}
+use Rattle.affinity.specs.facts.List.{ListRule, SlotRule, listStage}
 use Rattle.plan.specs.declared.Plan.{Plan}
 use Rattle.plan.specs.facts.Rules.{PlanRule, PlanSlotRule, planStage, PlanDemands, PlanSlotAccepted, PlanSlotDemands}
 use Rattle.plan.specs.facts.Planner.{positionsOf, MakeAccepted, MakeDemands}
@@ -53,8 +53,8 @@ module _ (list positions : List ℕ) where
     slot number place s = record { number = number; place = place; slot = s }
 
     accepted-none : {r : ListSlot} → PlanSlotAccepted list positions mpidr r → {n p : ℕ} → PlanSlotRule list positions mpidr n p → ⊥
-    accepted-none h (PlanSlotRule.ofPlan r) = plan-none list positions (h .plan) r
-    accepted-none h (PlanSlotRule.listUnknown out) = out (h .listed)
+    accepted-none h (SlotRule.earlier r) = plan-none list positions (h .plan) r
+    accepted-none h (SlotRule.listUnknown out) = out (h .listed)
 
     pub plan-slot-unique : (a b : ListSlot) → PlanSlotDemands list positions mpidr a → PlanSlotDemands list positions mpidr b → a ≡ b
     plan-slot-unique a b h g =

@@ -1,6 +1,6 @@
 -- SPDX-License-Identifier: BSD-2-Clause OR GPL-2.0-or-later
 -- What is answered of a list of MPIDRs: numbers 28, 29 and 30.
-use mathlib.Core.Bool.{cond}
+use mathlib.Core.Bool.{Bool, cond}
 use mathlib.Core.List.{List}
 use Prim.Native.Nat.{ℕ}
 use lib.Dec.{eqb, ltb}
@@ -45,9 +45,13 @@ hashAnswer list =
     cond (eqb (listFault list .number) 0) (record { number = 0; place = 0; hash = hashOf list })
     (record { number = listFault list .number; place = listFault list .place; hash = noHash })
 
+-- a slot behind a fault: the fault, then 30 for an unknown MPIDR, else the slot
+abbrev pub slotBehind : Fault → Bool → ℕ → ListSlot
+slotBehind f known slot =
+    cond (eqb (f .number) 0)
+    (cond known (record { number = 0; place = 0; slot = slot }) (record { number = 30; place = 0; slot = 0 }))
+    (record { number = f .number; place = f .place; slot = 0 })
+
 -- the answer to "one MPIDR's slot in a list": 28, 29, then 30 for an unknown one
 unfoldable pub slotAnswer : ℕ → List ℕ → ListSlot
-slotAnswer mpidr list =
-    cond (eqb (listFault list .number) 0)
-    (cond (isAmong list mpidr) (record { number = 0; place = 0; slot = slotIn list mpidr }) (record { number = 30; place = 0; slot = 0 }))
-    (record { number = listFault list .number; place = listFault list .place; slot = 0 })
+slotAnswer mpidr list = slotBehind (listFault list) (isAmong list mpidr) (slotIn list mpidr)

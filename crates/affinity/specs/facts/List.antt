@@ -23,10 +23,10 @@ pub data ListRule (list : List ℕ) : ℕ → ℕ → Type 0 where
   listLengthMany : maxCpus < length list → ListRule list 28 0
   listMpidr : (i : ℕ) → i < length list → (Affine (getD list i 0) → ⊥) → ListRule list 29 i
 
--- rules 28 to 30 of one MPIDR asked in a list
-pub data SlotRule (list : List ℕ) (mpidr : ℕ) : ℕ → ℕ → Type 0 where
-  ofList : {n p : ℕ} → ListRule list n p → SlotRule list mpidr n p
-  listUnknown : (Member list mpidr → ⊥) → SlotRule list mpidr 30 0
+-- rule 30 of one MPIDR asked in a list, behind earlier rules: those of the list, or of a plan for it
+pub data SlotRule (R : ℕ → ℕ → Type 0) (list : List ℕ) (mpidr : ℕ) : ℕ → ℕ → Type 0 where
+  earlier : {n p : ℕ} → R n p → SlotRule R list mpidr n p
+  listUnknown : (Member list mpidr → ⊥) → SlotRule R list mpidr 30 0
 
 -- the order: each number a stage of its own
 abbrev pub listStages : List (List ℕ)
@@ -52,12 +52,12 @@ pub record HashDemands (list : List ℕ) (r : ListHash) : Type 0 where
 
 -- a refusal tells the first broken rule, and no slot
 pub record SlotRefused (list : List ℕ) (mpidr : ℕ) (r : ListSlot) : Type 0 where
-  pub first : First listStage (SlotRule list mpidr) (r .number) (r .place)
+  pub first : First listStage (SlotRule (ListRule list) list mpidr) (r .number) (r .place)
   pub slot : r .slot ≡ 0
 
 -- an acceptance: no rule is broken, and the slot is that under the list's hash
 pub record SlotAccepted (list : List ℕ) (mpidr : ℕ) (r : ListSlot) : Type 0 where
-  pub none : (n p : ℕ) → SlotRule list mpidr n p → ⊥
+  pub none : (n p : ℕ) → SlotRule (ListRule list) list mpidr n p → ⊥
   pub place : r .place ≡ 0
   pub hash : Hash
   pub is-hash : IsHash list hash

@@ -7,12 +7,12 @@ use lib.ListN.{length}
 use Rattle.laws.specs.facts.First.{First}
 use Rattle.wire.specs.facts.Bytes.{numberSize, numbersIn}
 use Rattle.affinity.specs.declared.ListSlot.{ListSlot}
-use Rattle.affinity.specs.facts.List.{listStage, SlotRule, SlotAccepted}
+use Rattle.affinity.specs.facts.List.{listStage, ListRule, SlotRule, SlotAccepted}
 
 -- rules 28 to 30 of one MPIDR asked in a list of bytes, eight for each MPIDR: those of the list, and 28 where the bytes are no multiple of eight
 pub data ByteSlotRule (bytes : List ℕ) (mpidr : ℕ) : ℕ → ℕ → Type 0 where
   listLengthPart : (length bytes % numberSize ≡ 0 → ⊥) → ByteSlotRule bytes mpidr 28 0
-  ofNumbers : {n p : ℕ} → SlotRule (numbersIn bytes) mpidr n p → ByteSlotRule bytes mpidr n p
+  ofNumbers : {n p : ℕ} → SlotRule (ListRule (numbersIn bytes)) (numbersIn bytes) mpidr n p → ByteSlotRule bytes mpidr n p
 
 -- a refusal tells the first broken rule, and no slot
 pub record ByteSlotRefused (bytes : List ℕ) (mpidr : ℕ) (r : ListSlot) : Type 0 where

@@ -9,7 +9,7 @@ use Rattle.laws.specs.facts.First.{stageIn, First}
 use Rattle.laws.specs.facts.Limits.{noProperty}
 use Rattle.laws.specs.facts.Listing.{Member}
 use Rattle.affinity.specs.declared.ListSlot.{ListSlot}
-use Rattle.affinity.specs.facts.List.{ListRule}
+use Rattle.affinity.specs.facts.List.{ListRule, SlotRule}
 use Rattle.plan.specs.facts.Plan.{Positions, SeparatedAt, PlanSlot}
 
 -- rules 28, 29 and 40 of a plan for a list
@@ -18,10 +18,9 @@ pub data PlanRule (list positions : List ℕ) : ℕ → ℕ → Type 0 where
   planPositions : (Positions positions → ⊥) → PlanRule list positions 40 0
   planSeparates : (SeparatedAt list positions → ⊥) → PlanRule list positions 40 0
 
--- and 30 of one MPIDR asked under it
-pub data PlanSlotRule (list positions : List ℕ) (mpidr : ℕ) : ℕ → ℕ → Type 0 where
-  ofPlan : {n p : ℕ} → PlanRule list positions n p → PlanSlotRule list positions mpidr n p
-  listUnknown : (Member list mpidr → ⊥) → PlanSlotRule list positions mpidr 30 0
+-- .. and 30 of one MPIDR asked under it
+abbrev pub PlanSlotRule : List ℕ → List ℕ → ℕ → ℕ → ℕ → Type 0
+PlanSlotRule list positions mpidr = SlotRule (PlanRule list positions) list mpidr
 
 -- the order: each number a stage of its own
 abbrev pub planStages : List (List ℕ)
