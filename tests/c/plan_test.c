@@ -21,8 +21,10 @@
 
 _Static_assert(CHECK_WORDS == 2 && SLOT_WORDS == 3 && MAKE_WORDS == 35,
                "the words of the answers");
-_Static_assert(SUNDERWATH_PLAN_ANSWER_SLOT == 2 && SUNDERWATH_PLAN_ANSWER_LENGTH == 2 &&
-                   SUNDERWATH_PLAN_ANSWER_FIRST == 3 && SUNDERWATH_MAX_PLAN == 32,
+_Static_assert(SUNDERWATH_PLAN_ANSWER_SLOT == 2 &&
+                   SUNDERWATH_PLAN_ANSWER_LENGTH == 2 &&
+                   SUNDERWATH_PLAN_ANSWER_FIRST == 3 &&
+                   SUNDERWATH_MAX_PLAN == 32,
                "their places, and the most positions");
 
 /* A list with our plan, the slots under it and those of the hash. */
