@@ -1,5 +1,7 @@
 // SPDX-License-Identifier: BSD-2-Clause OR GPL-2.0-or-later
 // The affinity hash: the slot of each MPIDR of a list, by the bits in which the list's MPIDRs differ.
+#![tactic(auto)]
+
 mod level;
 mod list;
 mod mask;
@@ -11,7 +13,7 @@ pub use mask::mask_of;
 pub use slot::{hash_of_mask, slot_of};
 
 // The mask, each level's shift, and the number of bits of a slot.
-#[derive(Drop)]
+#[derive(Clone, Copy)]
 pub struct Hash {
     pub mask: u64,
     pub shifts: [u32; 4],
@@ -19,7 +21,7 @@ pub struct Hash {
 }
 
 // The mask of a list, or the number and the place of what is wrong with it.
-#[derive(Drop)]
+#[derive(Clone, Copy)]
 pub struct ListMask {
     pub number: u32,
     pub place: usize,
@@ -27,7 +29,7 @@ pub struct ListMask {
 }
 
 // The hash of a list, or the number and the place of what is wrong with it.
-#[derive(Drop)]
+#[derive(Clone, Copy)]
 pub struct ListHash {
     pub number: u32,
     pub place: usize,
@@ -35,7 +37,7 @@ pub struct ListHash {
 }
 
 // The slot of one MPIDR in a list, or the number and the place of what is wrong.
-#[derive(Drop)]
+#[derive(Clone, Copy)]
 pub struct ListSlot {
     pub number: u32,
     pub place: usize,

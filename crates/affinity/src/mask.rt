@@ -6,7 +6,7 @@ ghost use Rattle.affinity.specs.answers.Mask.{mask_of};
 ghost use Rattle.affinity.specs.facts.Mask.{IsMask};
 
 // What one pass over a list gives: the or of all of it, and its mask.
-#[derive(Drop)]
+#[derive(Clone, Copy)]
 pub struct Gathered {
     pub some: u64,
     pub mask: u64,

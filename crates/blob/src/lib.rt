@@ -1,5 +1,7 @@
 // SPDX-License-Identifier: BSD-2-Clause OR GPL-2.0-or-later
 // The reader of a flattened devicetree: a blob in, the records of its `/cpus` node out, or the number and the place of the first rule broken.
+#![tactic(auto)]
+
 mod blocks;
 mod count;
 mod ends;

@@ -1,5 +1,7 @@
 // SPDX-License-Identifier: BSD-2-Clause OR GPL-2.0-or-later
 // The board reader: a board's tables in, rows and save slots out, or the first rule broken, where, and of which property.
+#![tactic(auto)]
+
 mod in_place;
 mod read;
 mod survey;
@@ -19,7 +21,7 @@ use read::read;
 use rows::BoardSlots;
 
 // What a survey answers: no fault, with the counts of the cpu records and of the leaves; or a fault, with which these are 0.
-#[derive(Drop)]
+#[derive(Clone, Copy)]
 struct Surveyed {
     pub fault: Fault,
     pub cpus: usize,
@@ -27,7 +29,7 @@ struct Surveyed {
 }
 
 // What is told of a surveyed board and of the room lent for its rows, the count of its cpu records and how its slots are made.
-#[derive(Drop)]
+#[derive(Clone, Copy)]
 struct Checked {
     pub fault: Fault,
     pub count: usize,
@@ -35,7 +37,7 @@ struct Checked {
 }
 
 // What is asked for: the rows alone, or a table of slots, too, for which so many entries are lent.
-#[derive(Drop)]
+#[derive(Clone, Copy)]
 enum Asked {
     Rows,
     Slots(usize),

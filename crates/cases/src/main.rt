@@ -2,6 +2,8 @@
 // Runs the cases of standard input and writes what the library answers of each: boards, boards with a table of slots, lists of MPIDRs and
 // names. The texts between the numbers are of standard input too. tests/src/bin/make_cases.rs makes the files stdin and stdout; the answers
 // in stdout are the second reader's.
+#![tactic(auto)]
+
 mod boards;
 mod input;
 mod lists;

@@ -1,5 +1,7 @@
 // SPDX-License-Identifier: BSD-2-Clause OR GPL-2.0-or-later
 // The cpu map: its place, rules 15 and 16; what its records' names say; and where a record stands: its socket and clusters.
+#![tactic(auto)]
+
 mod find;
 mod number;
 mod numbered;
@@ -14,21 +16,21 @@ pub use path::topology_name;
 pub use positions::position_of;
 
 // A cluster path: four numbers, outermost first, 0xFFFFFFFF where unused, and how many are used.
-#[derive(Drop)]
+#[derive(Clone, Copy)]
 pub struct ClusterPath {
     pub numbers: [u32; 4],
     pub depth: usize,
 }
 
 // What a record and its ancestors say: the number of their socket, 0xFFFFFFFF where there is none, and their clusters.
-#[derive(Drop)]
+#[derive(Clone, Copy)]
 pub struct Position {
     pub socket: u32,
     pub clusters: ClusterPath,
 }
 
 // The first of rules 15 and 16 that is broken, or the map's record.
-#[derive(Drop)]
+#[derive(Clone, Copy)]
 pub struct MapScan {
     pub fault: Fault,
     pub map: usize,

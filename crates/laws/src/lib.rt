@@ -1,6 +1,8 @@
 // SPDX-License-Identifier: BSD-2-Clause OR GPL-2.0-or-later
 // What every other crate uses: general laws, the numbers and the limits of the rules, what is told of a broken one, the search of a list,
 // and a length cut to the room.
+#![tactic(auto)]
+
 mod cut;
 pub mod limits;
 pub mod rules;
@@ -11,7 +13,7 @@ pub use search::{is_among, place_in};
 
 // What a search for a broken rule tells: the rule's number, its place, and its second place, the record of the property that it
 // speaks of; 0, 0 and NO_PROPERTY where no rule is broken.
-#[derive(Drop)]
+#[derive(Clone, Copy)]
 pub struct Fault {
     pub number: u32,
     pub place: usize,

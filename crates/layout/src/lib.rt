@@ -1,5 +1,7 @@
 // SPDX-License-Identifier: BSD-2-Clause OR GPL-2.0-or-later
 // The layout of rows: twelve words for each leaf, one row behind the other.
+#![tactic(auto)]
+
 ghost use Rattle.std.specs.Prelude.{◌≡◌};
 ghost use Rattle.layout.specs.answers.Words.{with_row};
 
@@ -13,7 +15,7 @@ pub const SLOT_WORD: usize = 11;
 pub const GAP: u32 = 0xFFFFFFFF;
 
 // What a row holds, in the order of its words.
-#[derive(Drop)]
+#[derive(Clone, Copy)]
 pub struct Row {
     pub leaf: u32,
     pub cpu: u32,

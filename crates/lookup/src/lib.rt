@@ -1,5 +1,7 @@
 // SPDX-License-Identifier: BSD-2-Clause OR GPL-2.0-or-later
 // Finding a property of a record by its name: a search of the property table that ends at its match.
+#![tactic(auto)]
+
 ghost use Rattle.std.specs.Prelude.{◌≡◌};
 ghost use Rattle.tables.specs.answers.Lookup.{is_property, lookup};
 ghost use Rattle.lookup.specs.facts.Finds.{FindsIn};

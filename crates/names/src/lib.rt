@@ -1,11 +1,13 @@
 // SPDX-License-Identifier: BSD-2-Clause OR GPL-2.0-or-later
 // Names in the map: a socket, a cluster, a core or a thread with its number, or none of these.
+#![tactic(auto)]
+
 ghost use Rattle.std.specs.Prelude.{◌≡◌, ◌≤◌, length};
 ghost use Rattle.names.specs.facts.Kind.{Says};
 ghost use Rattle.names.specs.answers.Name.{starts_with, number_of, name_of};
 ghost use Rattle.names.specs.steps.Name.{number_after};
 
-#[derive(Drop)]
+#[derive(Clone, Copy)]
 pub enum TopologyName {
     Socket(u32),
     Cluster(u32),
@@ -15,7 +17,7 @@ pub enum TopologyName {
 }
 
 // One to four decimal digits, or not.
-#[derive(Drop)]
+#[derive(Clone, Copy)]
 enum Number {
     Decimal(u32),
     NotDecimal,

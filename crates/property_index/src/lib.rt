@@ -1,12 +1,14 @@
 // SPDX-License-Identifier: BSD-2-Clause OR GPL-2.0-or-later
 // The properties that are looked up for many records: where each stands, noted in one pass over the property table.
+#![tactic(auto)]
+
 mod index;
 mod name;
 
 pub use index::{find_indexed, index_properties};
 
 // The properties that are looked up.
-#[derive(Drop)]
+#[derive(Clone, Copy)]
 pub enum Key {
     Reg,
     Cpu,

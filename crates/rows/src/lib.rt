@@ -1,5 +1,7 @@
 // SPDX-License-Identifier: BSD-2-Clause OR GPL-2.0-or-later
 // The rows of a board: one for each leaf, written into a lent buffer.
+#![tactic(auto)]
+
 mod leaf;
 mod slots;
 mod write;
@@ -10,21 +12,21 @@ pub use slots::slots_for;
 pub use write::write_rows;
 
 // A node record and its position.
-#[derive(Drop)]
+#[derive(Clone, Copy)]
 struct Placed {
     pub node: usize,
     pub position: Position,
 }
 
 // How the slots of a board are made: by its number, and by the hash of its MPIDRs.
-#[derive(Drop)]
+#[derive(Clone, Copy)]
 pub struct BoardSlots {
     pub width: u32,
     pub hash: Hash,
 }
 
 // A cpu that a leaf names: its record, its `reg` and its slot.
-#[derive(Drop)]
+#[derive(Clone, Copy)]
 struct NamedCpu {
     pub cpu: usize,
     pub reg: u64,

@@ -1,5 +1,7 @@
 // SPDX-License-Identifier: BSD-2-Clause OR GPL-2.0-or-later
 // The token stream of a flattened devicetree: whether it is whole, and what the node `cpus` holds.
+#![tactic(auto)]
+
 mod step;
 mod walking;
 
@@ -7,7 +9,7 @@ pub use walking::survey;
 
 // Where a walk stands: the next token's offset, how many nodes are open, whether a property (or, outside every node, the root) may
 // come; 1 inside a child of the root named `cpus`, else 0; how many of these there are, where the last began, and what they hold.
-#[derive(Drop)]
+#[derive(Clone, Copy)]
 pub struct Walk {
     pub at: usize,
     pub depth: usize,
@@ -20,7 +22,7 @@ pub struct Walk {
 }
 
 // What follows a token: the walk goes on, or it has come to its end, or it breaks at a place.
-#[derive(Drop)]
+#[derive(Clone, Copy)]
 pub enum Next {
     On(Walk),
     Ends(Walk),
@@ -28,7 +30,7 @@ pub enum Next {
 }
 
 // What a walk finds: a whole stream, or the place that breaks it.
-#[derive(Drop)]
+#[derive(Clone, Copy)]
 pub enum Surveyed {
     Whole(Walk),
     Broken(usize),

@@ -1,5 +1,7 @@
 // SPDX-License-Identifier: BSD-2-Clause OR GPL-2.0-or-later
 // The calls for C. Each slice is a pointer and a count of elements; include/sunderwath.h says what a caller owes.
+#![tactic(auto)]
+
 mod answer;
 mod bytes;
 mod check;

@@ -1,5 +1,7 @@
 // SPDX-License-Identifier: BSD-2-Clause OR GPL-2.0-or-later
 // A board's three tables, read without trusting them: records, ancestors, ranges of the pool, properties; and the names of the bindings.
+#![tactic(auto)]
+
 pub mod binding;
 pub mod boards;
 mod pool;
@@ -13,14 +15,14 @@ pub use tree::{is_below, is_child, name_is, parent_of};
 pub use words::{node_word, prop_word, wide};
 
 // A record's parent, or Top where it has none.
-#[derive(Drop)]
+#[derive(Clone, Copy)]
 pub enum Parent {
     Record(usize),
     Top,
 }
 
 // A property that was found: the number of its record, and where its value stands in the pool.
-#[derive(Drop)]
+#[derive(Clone, Copy)]
 pub struct Found {
     pub number: usize,
     pub offset: usize,
@@ -28,7 +30,7 @@ pub struct Found {
 }
 
 // The property that was looked for, or Missing.
-#[derive(Drop)]
+#[derive(Clone, Copy)]
 pub enum Lookup {
     At(Found),
     Missing,

@@ -1,5 +1,7 @@
 // SPDX-License-Identifier: BSD-2-Clause OR GPL-2.0-or-later
 // The tokens of a flattened devicetree: what stands at a place of the structure block.
+#![tactic(auto)]
+
 mod cell;
 mod known;
 mod token;
@@ -11,7 +13,7 @@ pub use zero::{behind_zero, zero_from};
 
 // What reading a token finds: a node name's length, a property name's offset in the strings block, a value's size, and where the next
 // token stands. Close, Nop and End take four bytes. Unsound: no token stands there.
-#[derive(Drop)]
+#[derive(Clone, Copy)]
 pub enum TokenRead {
     Begin {
         len: usize,

@@ -1,5 +1,7 @@
 // SPDX-License-Identifier: BSD-2-Clause OR GPL-2.0-or-later
 // The records of the cpu map: their kinds, numbers and depth: rules 18 to 23 at one record.
+#![tactic(auto)]
+
 mod kind;
 mod record;
 mod shape;
@@ -8,7 +10,7 @@ mod siblings;
 pub use record::record_shape;
 
 // What a record breaks of 18 to 23, 0 where nothing, and whether it is a leaf.
-#[derive(Drop)]
+#[derive(Clone, Copy)]
 pub struct RecordShape {
     pub number: u32,
     pub leaf: bool,

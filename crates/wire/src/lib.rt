@@ -1,5 +1,7 @@
 // SPDX-License-Identifier: BSD-2-Clause OR GPL-2.0-or-later
 // Numbers in bytes, lowest byte first: words written, and numbers read.
+#![tactic(auto)]
+
 mod put;
 mod read;
 
