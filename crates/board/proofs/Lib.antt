@@ -4,3 +4,4 @@ pub mod ReadLaws
 pub mod JoinLaws
 pub mod CallLaws
 pub mod SurveyLaws
+pub mod StageLaws
