@@ -34,35 +34,35 @@ state_move {ts} {t} {d} {e} {f} {g} s m = record { rest = go }
           λ h. subst (Leads 0 true) (sym same) ((s.rest (t ∷ more)).1 (m.from h)),
         )
 
+nop_back : {d : ℕ} {f : Bool} {more : List Token} → Leads d f (nop ∷ more) → Leads d f more
+nop_back (skip h) = h
+
 pub nop_moves : {d : ℕ} {f : Bool} → Moves nop d f d f
-nop_moves {d} {f} = record { to = back; from = skip }
-  where
-    back : {more : List Token} → Leads d f (nop ∷ more) → Leads d f more
-    back (skip h) = h
+nop_moves {d} {f} = record { to = nop_back; from = skip }
+
+root_back : {n l : ℕ} {more : List Token} → Leads 0 true (begin n l ∷ more) → Leads 1 true more
+root_back (rooted h) = h
 
 pub root_moves : {n l : ℕ} → Moves (begin n l) 0 true 1 true
-root_moves {n} {l} = record { to = back; from = rooted }
-  where
-    back : {more : List Token} → Leads 0 true (begin n l ∷ more) → Leads 1 true more
-    back (rooted h) = h
+root_moves {n} {l} = record { to = root_back; from = rooted }
+
+begin_back : {d n l : ℕ} {f : Bool} {more : List Token} → Leads (suc d) f (begin n l ∷ more) → Leads (suc (suc d)) true more
+begin_back (deeper h) = h
 
 pub begin_moves : {d n l : ℕ} {f : Bool} → Moves (begin n l) (suc d) f (suc (suc d)) true
-begin_moves {d} {n} {l} {f} = record { to = back; from = deeper }
-  where
-    back : {more : List Token} → Leads (suc d) f (begin n l ∷ more) → Leads (suc (suc d)) true more
-    back (deeper h) = h
+begin_moves {d} {n} {l} {f} = record { to = begin_back; from = deeper }
+
+close_back : {d : ℕ} {f : Bool} {more : List Token} → Leads (suc d) f (close ∷ more) → Leads d false more
+close_back (up h) = h
 
 pub close_moves : {d : ℕ} {f : Bool} → Moves close (suc d) f d false
-close_moves {d} {f} = record { to = back; from = up }
-  where
-    back : {more : List Token} → Leads (suc d) f (close ∷ more) → Leads d false more
-    back (up h) = h
+close_moves {d} {f} = record { to = close_back; from = up }
+
+own_back : {d n l v s : ℕ} {more : List Token} → Leads (suc d) true (property n l v s ∷ more) → Leads (suc d) true more
+own_back (own h) = h
 
 pub own_moves : {d n l v s : ℕ} → Moves (property n l v s) (suc d) true (suc d) true
-own_moves {d} {n} {l} {v} {s} = record { to = back; from = own }
-  where
-    back : {more : List Token} → Leads (suc d) true (property n l v s ∷ more) → Leads (suc d) true more
-    back (own h) = h
+own_moves {d} {n} {l} {v} {s} = record { to = own_back; from = own }
 
 -- which tokens a state allows
 abbrev pub Allowed : Token → ℕ → Bool → Type 0

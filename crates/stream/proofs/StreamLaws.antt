@@ -7,7 +7,7 @@ use Prim.Native.Nat.{ℕ, zero, suc}
 use native.Mathlib.Omega.{arith}
 use lib.ListN.{length}
 use Rattle.laws.proofs.SearchLaws.{true_false}
-use Rattle.tokens.specs.facts.Token.{Token, begin, close, property, nop}
+use Rattle.tokens.specs.facts.Token.{Token, begin, close, property, nop, finish}
 use Rattle.stream.specs.facts.Tree.{Property, Nodes, empty, node, property_tokens, tokens_of}
 use Rattle.stream.specs.facts.Stream.{without_nops, Root, root}
 
@@ -63,6 +63,7 @@ nops_lead (begin n l ∷ ts) (rooted h) = rooted (nops_lead ts h)
 nops_lead (begin n l ∷ ts) (deeper h) = deeper (nops_lead ts h)
 nops_lead (close ∷ ts) (up h) = up (nops_lead ts h)
 nops_lead (property n l v s ∷ ts) (own h) = own (nops_lead ts h)
+nops_lead (finish ∷ ts) {d = d} {f = f} h = elim h [ ]
 
 -- Tokens that lead to the end are those of a tree: for each open node its further children, and the innermost one's further properties.
 unfoldable level_tokens : List Nodes → List Token

@@ -47,6 +47,8 @@ token_next (finish_at c) e f = let i = c.inside in (omega arith, omega arith)
 
 -- the end token stands in no stream that still leads to the end
 no_finish : (ts rest : List Token) {d : ℕ} {f : Bool} → Leads d f (ts ++ (finish ∷ rest)) → ⊥
+no_finish [] rest {d = d} {f = f} h = elim h [ ]
+no_finish (finish ∷ ts) rest {d = d} {f = f} h = elim h [ ]
 no_finish (nop ∷ ts) rest (skip h) = no_finish ts rest h
 no_finish (begin n l ∷ ts) rest (rooted h) = no_finish ts rest h
 no_finish (begin n l ∷ ts) rest (deeper h) = no_finish ts rest h
