@@ -1,0 +1,11 @@
+-- SPDX-License-Identifier: BSD-2-Clause OR GPL-2.0-or-later
+-- `level_begin` reads the table of the levels. Assumes nothing.
+use native.Mathlib.Omega.{arith}
+use Rattle.affinity.proofs.level.level_begin.Goals as goal
+
+-- TODO need array-read-result
+-- array-read-result : tie.Need-array-read-result
+-- array-read-result c = search rules
+
+pub returns : goal.returns
+returns c = omega arith
