@@ -10,6 +10,8 @@ mod lists;
 mod say;
 mod slots;
 
+use std::io;
+
 const BOARD: u32 = 0;
 
 const LIST: u32 = 1;
@@ -17,29 +19,30 @@ const LIST: u32 = 1;
 const SLOTS: u32 = 3;
 
 // The kind of a name and its number.
-fn name() {
+fn name(rt: &(impl Input + Print)) -> io::Result<()> {
     let mut bytes = [0u8; 96];
-    let count = input::bytes(&mut bytes);
+    let count = input::bytes(rt, &mut bytes)?;
     let name = names::name_of(&bytes[..count]);
-    say::told(cpumap::kind_number(name) as u64);
-    say::told(cpumap::topology_number(name) as u64);
+    say::told(rt, cpumap::kind_number(name) as u64)?;
+    say::told(rt, cpumap::topology_number(name) as u64)
 }
 
 // The first word is the number of cases, and the first of each case is its kind.
-fn main() {
-    let mut left = input::word();
-    say::told(left as u64);
+fn main(rt: HostRuntime) -> io::Result<()> {
+    let mut left = input::word(&rt)?;
+    say::told(&rt, left as u64)?;
     while left > 0 {
-        let kind = input::word();
+        let kind = input::word(&rt)?;
         if kind == BOARD {
-            boards::board();
+            boards::board(&rt)?;
         } else if kind == LIST {
-            lists::list();
+            lists::list(&rt)?;
         } else if kind == SLOTS {
-            slots::board();
+            slots::board(&rt)?;
         } else {
-            name();
+            name(&rt)?;
         }
         left -= 1;
     }
+    Ok(())
 }

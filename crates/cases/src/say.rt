@@ -2,31 +2,38 @@
 // Writing to standard output.
 use crate::input;
 use affinity::Hash;
-use libc::STDOUT_FILENO;
+use std::io;
 
 // A number, and the next text of standard input after it.
-pub fn told(n: u64) {
+pub fn told(rt: &(impl Input + Print), n: u64) -> io::Result<()> {
     let mut text = [0u8; 96];
-    let count = input::bytes(&mut text);
-    io::print_decimal(STDOUT_FILENO, n);
-    io::write_all(STDOUT_FILENO, &text[..count]);
+    let count = input::bytes(rt, &mut text)?;
+    print!(rt; "{n}")?;
+    rt.write_all(&text[..count])
 }
 
-pub fn words(words: &[u32]) {
+pub fn words(rt: &(impl Input + Print), words: &[u32]) -> io::Result<()> {
     let mut i: usize = 0;
     while i < words.len() {
-        told(words[i] as u64);
+        told(rt, words[i] as u64)?;
         i += 1;
     }
+    Ok(())
 }
 
 // An answer; its third number is a count or a slot.
-pub fn answer(number: u32, place: usize, third: usize, hash: Hash) {
+pub fn answer(
+    rt: &(impl Input + Print),
+    number: u32,
+    place: usize,
+    third: usize,
+    hash: Hash,
+) -> io::Result<()> {
     let shifts = hash.shifts;
-    told(number as u64);
-    told(place as u64);
-    told(third as u64);
-    told(hash.mask);
-    words(&shifts);
-    told(hash.bits as u64);
+    told(rt, number as u64)?;
+    told(rt, place as u64)?;
+    told(rt, third as u64)?;
+    told(rt, hash.mask)?;
+    words(rt, &shifts)?;
+    told(rt, hash.bits as u64)
 }
