@@ -13,17 +13,21 @@ complain() {
 
 # The lines that say something: no comments, no blank lines, no imports.
 lines_of() {
-    find crates -path "*/specs/$1/*.antt" -print0 | xargs -0 cat | grep -cvE '^[[:space:]]*(--.*)?$|^(pub )?use '
+    find crates/*/specs -path "*/specs/$1/*.antt" -print0 | xargs -0 cat | grep -cvE '^[[:space:]]*(--.*)?$|^(pub )?use '
 }
+
+# The items of a source file that begin so, each on one line: WORDS FILE
+items() { tr -s '\n ' ' ' <"$2" | { grep -oE "(^| )$1 [^;]*;" || true; }; }
 
 # Names that a source file takes from specs/steps/, one to a line.
 step_names() {
-    sed -nE 's/^ghost use Rattle·[^ ]*specs\.steps\.[^ ]*\.\{(.*)\};$/\1/p' "$1" | tr ',' '\n' | tr -d ' '
+    items 'ghost use' "$1" | sed -nE 's/^ ?ghost use Rattle\.[a-z_0-9]+\.specs\.steps\.[^ ]*\.\{(.*)\};$/\1/p' | tr -s ', ' '\n' | sed '/^$/d'
 }
 
 # Functions that other crates or C can call: those of lib.rt, those that lib.rt hands on, methods, and calls for C.
 reached() {
-    sed -nE 's/^pub use .*::([a-z_0-9]+);$/\1/p; s/^pub fn ([a-z_0-9]+).*/\1/p' "$1/lib.rt"
+    items 'pub use' "$1/lib.rt" | sed -E 's/^ ?pub use .*::\{?([^:{}]*)\}?;$/\1/' | tr -s ', ' '\n' | sed '/^$/d'
+    sed -nE 's/^pub fn ([a-z_0-9]+).*/\1/p' "$1/lib.rt"
     sed -nE 's/^pub extern "C" fn ([a-z_0-9]+).*/\1/p; s/^ +pub fn ([a-z_0-9]+).*/\1/p' "$1"/*.rt
 }
 
@@ -35,7 +39,7 @@ contract() {
         inside { print }' "$1"
 }
 
-for file in $(find crates -path '*/specs/*.antt' | sort); do
+for file in $(find crates/*/specs -name '*.antt' | sort); do
     case $file in
     */specs/Lib.antt | */specs/facts.antt | */specs/answers.antt | */specs/steps.antt) continue ;;
     */specs/facts/*) barred='answers|steps' ;;
@@ -43,7 +47,7 @@ for file in $(find crates -path '*/specs/*.antt' | sort); do
     */specs/steps/*) continue ;;
     *) complain "$file: neither a fact, nor an answer, nor a step" && continue ;;
     esac
-    if found=$(grep -nE "^(pub )?use Rattle·[^ ]*specs\.($barred)\." "$file"); then
+    if found=$(grep -nE "^(pub )?use Rattle\.[a-z_0-9]+\.specs\.($barred)\." "$file"); then
         complain "$file uses what it may not:"$'\n'"$found"
     fi
 done
@@ -54,7 +58,7 @@ for source in crates/*/src; do
         names=$(step_names "$file" | paste -sd'|')
         [ -n "$names" ] || continue
         for function in $(reached "$source" | sort -u); do
-            if contract "$file" "$function" | grep -qE "(^|[ (⌜])($names)([ )]|$)"; then
+            if contract "$file" "$function" | grep -qE "(^|[ (])($names)([ ).]|$)"; then
                 complain "$file: the contract of $function cites a step ($names)"
             fi
         done
