@@ -14,8 +14,8 @@ def lines(text):
 
 
 def dependencies(text):
-    """What each crate of crates.txt depends on, those of the kit left out."""
-    pairs = [line.split(":") for line in lines(text)]
+    """What each crate of crates.txt depends on, those of the kit left out. Behind a name may stand what kind of library it is."""
+    pairs = [(head.split()[0], words) for head, _, words in (line.partition(":") for line in lines(text))]
     names = {name for name, _ in pairs}
     return {name: [one for one in words.split() if one in names] for name, words in pairs}
 
