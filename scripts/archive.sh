@@ -3,7 +3,7 @@
 # The library for a processor: archive.sh [x86_64|aarch64|riscv64]... (x86_64 where none is named)
 #
 # Proves the library and writes target/archive/TARGET/libsunderwath.a, all of one module that the proved code was lowered to:
-#   x86_64   as the kit compiles it
+#   x86_64   as the kit compiles it for every processor of that kind
 #   aarch64  for bare metal: general registers only, no misaligned access
 #   riscv64  rv64gc with the ABI lp64d, which runs under Linux too, and in riscv64/rv64imac/ the same for rv64imac with the ABI lp64; no
 #            misaligned access
@@ -21,23 +21,22 @@ fail() {
 # ---- the kit
 
 command -v rt >/dev/null || fail "the Rattle kit is needed: 'rt' is not on the PATH"
-kit=${RATTLE_HOME:-$(dirname "$(dirname "$(readlink -f "$(command -v rt)")")")}
-own=$kit/on/$(uname -m)
-clang=$own/toolchain/bin/clang
+kit=$(dirname "$(dirname "$(readlink -f "$(command -v rt)")")")
+clang=$kit/toolchain/bin/clang
 [ -x "$clang" ] || fail "the kit at $kit has no compiler for this machine"
 
 # ---- what changed
 
 # The crates that the library is made of.
-dependencies() { sed -n 's/^sunderwath: *//p' crates.txt; }
+dependencies() { sed -n 's/^sunderwath staticlib: *//p' crates.txt; }
 
 # One line for all that the module is made of: the kit, the crates, and this script.
 inputs() {
     {
         cat "$kit/KIT-ID"
         # shellcheck disable=SC2046
-        find $(dependencies | tr ' ' '\n' | sed 's,^,crates/,') crates/sunderwath -type f -not -path '*/must-fail/*' -print0 |
-            sort -z | xargs -0 sha256sum
+        find $(dependencies | tr ' ' '\n' | sed 's,^,crates/,') crates/sunderwath -regex 'crates/[^/]*/out' -prune -o \
+            -type f -not -path '*/must-fail/*' -print0 | sort -z | xargs -0 sha256sum
         sha256sum crates.txt scripts/archive.sh
     } | sha256sum | cut -d' ' -f1
 }
@@ -50,52 +49,58 @@ is_current() {
 
 # ---- the module, and the archive for x86-64
 
-# A toolchain as `rattle build --toolchain` takes it: the kit's, with a clang that keeps the module before it compiles it.
+# A toolchain as `rattle build --toolchain` takes it: the kit's, with a clang that keeps the module before it compiles it. It is made of
+# links, which `rt ci` refuses in a checkout, so it stands outside: FOLDER
 keeping_toolchain() {
-    local folder=$PWD/$out/toolchain
-    rm -rf "$folder"
-    mkdir -p "$folder/bin"
-    ln -s "$own/toolchain/lib" "$folder/lib"
-    ln -s "$own/toolchain/bin/"* "$folder/bin/"
-    rm "$folder/bin/clang"
-    cat >"$folder/bin/clang" <<SCRIPT
+    mkdir "$1/bin"
+    ln -s "$kit/toolchain/lib" "$1/lib"
+    ln -s "$kit/toolchain/bin/"* "$1/bin/"
+    rm "$1/bin/clang"
+    cat >"$1/bin/clang" <<SCRIPT
 #!/bin/sh
 for word; do
     case \$word in *.bc) cp -- "\$word" "$PWD/$module" || exit ;; esac
 done
 exec "$clang" "\$@"
 SCRIPT
-    chmod +x "$folder/bin/clang"
-    echo "$folder"
+    chmod +x "$1/bin/clang"
 }
 
-# The options that name these crates, one to a line.
+# The options that name these crates, one to a line, as seen from a crate's folder.
 externs() {
     local name
-    echo "--extern=std=$own/rlib/std.rlib"
+    printf '%s\n' "--extern=std=$kit/rlibs/std.rlib" "-Ldependency=$kit/rlibs"
     for name in $(dependencies); do
-        echo "--extern=$name=target/rlib/$name.rlib"
+        printf '%s\n' "--extern=$name=../$name/out/rlib/$name.rlib" "-Ldependency=../$name/out/rlib"
     done
+}
+
+# What `rt lib` calls for the library, whose crates it has proved and built, with another toolchain: TOOLCHAIN ARCHIVE
+build_keeping() {
+    local words
+    mapfile -t words < <(externs)
+    cd crates/sunderwath
+    "$kit/bin/rattle" build --crate-name sunderwath src/lib.rt "${words[@]}" --antt-project "$kit/rattle/logic/antt-project.json" \
+        --logic-built "$kit/logic_built" --incremental out/incremental --links sunderwath= --crate-type staticlib --cpu x86-64 \
+        --toolchain "$1" --backend llvm -o "$2"
 }
 
 # Keeps the whole output of the kit as a log, and shows the lines that say what is proved: LOG
 progress() {
-    tee "$1" | { grep --line-buffered -E '^rt: |NOT PROVED|error' || true; }
+    tee "$1" | { grep --line-buffered -E '^rt: |not proved|error' || true; }
 }
 
 # Proves and builds the library, unless that is done.
 build() {
-    local words
     rm -f "$out"/*/inputs "$module"
     mkdir -p "$out/x86_64"
     echo "proving the library, once: about four minutes on two cores"
-    # shellcheck disable=SC2046
-    rt check $(dependencies) 2>&1 | progress "$out/check.log" || fail "not proved: see $out/check.log"
-    mapfile -t words < <(externs)
-    "$own/bin/rattle" build --crate-name sunderwath crates/sunderwath/src/lib.rt "${words[@]}" \
-        -L dependency=target/rlib -L "dependency=$own/rlib" --antt-project "$kit/logic/antt-project.json" \
-        --logic-built "$own/logic-built" --crate-type staticlib --toolchain "$(keeping_toolchain)" \
-        -o "$out/x86_64/libsunderwath.a" 2>&1 | progress "$out/build.log" || fail "not built: see $out/build.log"
+    (cd crates/sunderwath && rt lib --cpu x86-64) 2>&1 | progress "$out/check.log" || fail "not proved: see $out/check.log"
+    toolchain=$(mktemp -d)
+    trap 'rm -r "$toolchain"' EXIT
+    keeping_toolchain "$toolchain"
+    (build_keeping "$toolchain" "$PWD/$out/x86_64/libsunderwath.a") 2>&1 | progress "$out/build.log" ||
+        fail "not built: see $out/build.log"
     grep -q '^logic=proved ' "$out/build.log" || fail "the library is not proved: see $out/build.log"
     ! grep -q '^logic=proved .*foreign=' "$out/build.log" || fail "the library declares C functions of its own"
     echo "rt: sunderwath proved, $out/x86_64/libsunderwath.a written"
@@ -125,7 +130,7 @@ compile() {
     module_for "$triple" >"$folder/module.ll"
     "$clang" --target="$triple" "$@" -Wno-override-module -ffunction-sections -fdata-sections -O3 -c -x ir "$folder/module.ll" \
         -o "$folder/sunderwath.o"
-    "$own/toolchain/bin/llvm-ar" crsD "$folder/libsunderwath.a" "$folder/sunderwath.o"
+    "$kit/toolchain/bin/llvm-ar" crsD "$folder/libsunderwath.a" "$folder/sunderwath.o"
     rm "$folder/sunderwath.o"
 }
 
