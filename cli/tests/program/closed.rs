@@ -3,10 +3,9 @@
 //! and never a panic.
 
 use crate::builder::small;
-use crate::run::{board, directory, program, run_in, run_on_input, text, written};
+use crate::run::{board, directory, linked, program, run_in, run_on_input, text, written};
 use std::fs::File;
 use std::io::Write;
-use std::os::unix::fs::symlink;
 use std::process::{Command, Output, Stdio};
 
 fn full() -> Stdio {
@@ -125,7 +124,7 @@ fn closed_streams() {
 #[test]
 fn unreadable_files() {
     let place = directory("closed-files");
-    symlink("loop", place.join("loop")).expect("the link is made");
+    let _link = linked(&place, "loop", "loop");
     written(&place, b"empty.dtb", b"");
     for (operand, message) in [
         (

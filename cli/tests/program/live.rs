@@ -2,10 +2,10 @@
 //! Directories that hold a live tree, as /proc/device-tree does: a node is a directory, a property a file.
 
 use crate::boards::names;
-use crate::run::{board, compiled, directory, run, run_in, run_on_input, text};
+use crate::run::{board, compiled, directory, linked, run, run_in, run_on_input, text};
 use std::fs::{self, Permissions};
 use std::os::unix::ffi::OsStrExt;
-use std::os::unix::fs::{symlink, PermissionsExt};
+use std::os::unix::fs::PermissionsExt;
 use std::path::Path;
 use std::process::{Command, Output};
 use sunderwath_cli::flat;
@@ -87,7 +87,7 @@ fn operands() {
         assert_eq!(text(&output.stderr), "");
         assert_eq!(text(&output.stdout).lines().count(), 4);
     }
-    symlink("tree", place.join("link")).expect("the link is made");
+    let _link = linked(&place, "link", "tree");
     let expected = run_in(&place, &[b"tree"]).stdout;
     for operand in [&b"link"[..], b"link/", b"./tree/."] {
         assert_eq!(run_in(&place, &[operand]).stdout, expected);

@@ -5,6 +5,7 @@ use std::ffi::OsStr;
 use std::fs;
 use std::io::Write;
 use std::os::unix::ffi::OsStrExt;
+use std::os::unix::fs::symlink;
 use std::path::{Path, PathBuf};
 use std::process::{Command, Output, Stdio};
 
@@ -35,6 +36,22 @@ pub fn written(directory: &Path, name: &[u8], bytes: &[u8]) -> PathBuf {
     let file = directory.join(OsStr::from_bytes(name));
     fs::write(&file, bytes).expect("the file is written");
     file
+}
+
+/// A link, which goes with this value: `rt ci` refuses links in a checkout.
+pub struct Link(PathBuf);
+
+impl Drop for Link {
+    fn drop(&mut self) {
+        let _ = fs::remove_file(&self.0);
+    }
+}
+
+/// Makes a link of this name in a directory.
+pub fn linked(directory: &Path, name: &str, target: &str) -> Link {
+    let link = directory.join(name);
+    symlink(target, &link).expect("the link is made");
+    Link(link)
 }
 
 /// Runs the program in a directory, on operands of any bytes.
