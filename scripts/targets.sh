@@ -41,9 +41,9 @@ symbols() {
 
 # The archive for x86-64 is what the kit's own command writes.
 as_the_kit_writes_it() {
-    rt staticlib sunderwath >target/staticlib.log 2>&1 || { cat target/staticlib.log; exit 1; }
-    cmp target/staticlib/libsunderwath.a $archives/x86_64/libsunderwath.a || fail "'rt staticlib sunderwath' writes another archive"
-    echo "x86_64: byte for byte what 'rt staticlib sunderwath' writes"
+    (cd crates/sunderwath && rt lib --cpu x86-64) >target/lib.log 2>&1 || { cat target/lib.log; exit 1; }
+    cmp crates/sunderwath/out/libsunderwath.a $archives/x86_64/libsunderwath.a || fail "'rt lib --cpu x86-64' writes another archive"
+    echo "x86_64: byte for byte what 'rt lib --cpu x86-64' writes"
 }
 
 # ---- the same calls everywhere
