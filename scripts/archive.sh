@@ -94,7 +94,7 @@ progress() {
 build() {
     rm -f "$out"/*/inputs "$module"
     mkdir -p "$out/x86_64"
-    echo "proving the library, once: about four minutes on two cores"
+    echo "proving the library, once: this takes some minutes"
     (cd crates/sunderwath && rt lib --cpu x86-64) 2>&1 | progress "$out/check.log" || fail "not proved: see $out/check.log"
     toolchain=$(mktemp -d)
     trap 'rm -r "$toolchain"' EXIT
