@@ -3,9 +3,5 @@
 use native.Mathlib.Omega.{arith}
 use Rattle.affinity.proofs.level.level_begin.Goals as goal
 
--- TODO need array-read-result
--- array-read-result : tie.Need-array-read-result
--- array-read-result c = search rules
-
 pub returns : goal.returns
 returns c = omega arith
