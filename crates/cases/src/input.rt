@@ -1,14 +1,27 @@
 // SPDX-License-Identifier: BSD-2-Clause OR GPL-2.0-or-later
-// Reading standard input. A word has four bytes, big-endian; in front of a table's elements stands a word that says how many follow. Input that
-// ends before all of it is read is an error.
+// Reading standard input. A word has four bytes, big-endian; in front of a table's elements stands a word that says how many follow. Bytes
+// behind the end of the input are 0.
 ghost use Rattle.std.specs.Io.{ReadsAtMost};
 
 use std::io;
 use std::io::Read;
 
+// Fills bytes as far as the input goes; those behind its end stay as they were.
+fn fill(rt: &impl Input, bytes: &mut [u8]) -> io::Result<()> {
+    let mut at: usize = 0;
+    while at < bytes.len() {
+        let count = rt.reader().read(&mut bytes[at..])?;
+        if count == 0 {
+            return Ok(());
+        }
+        at += count;
+    }
+    Ok(())
+}
+
 pub fn word(rt: &impl Input) -> io::Result<u32> {
     let mut bytes = [0u8; 4];
-    rt.reader().read_exact(&mut bytes)?;
+    fill(rt, &mut bytes)?;
     Ok(tables::cell_at(&bytes, 0))
 }
 
@@ -37,6 +50,6 @@ pub fn bytes(rt: &impl Input, table: &mut [u8]) -> io::Result<usize>
     ensures { ReadsAtMost result table.new }
 {
     let count = laws::at_most(word(rt)? as usize, table.len());
-    rt.reader().read_exact(&mut table[..count])?;
+    fill(rt, &mut table[..count])?;
     Ok(count)
 }
