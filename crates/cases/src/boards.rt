@@ -16,19 +16,19 @@ pub fn pool() -> [u8; 65537] {
 // The node words and the property words.
 pub fn board(rt: &(impl Input + Print)) -> io::Result<()> {
     let mut nodes = table();
-    let n = input::words(rt, &mut nodes)?;
+    let n = input::words(rt, &mut nodes);
     let mut props = table();
-    let p = input::words(rt, &mut props)?;
+    let p = input::words(rt, &mut props);
     read(rt, &nodes[..n], &props[..p])
 }
 
 // The pool, what the row buffer holds before the board is read, and the width. All words of the buffer are written behind the answer.
 fn read(rt: &(impl Input + Print), nodes: &[u32], props: &[u32]) -> io::Result<()> {
     let mut pool = pool();
-    let b = input::bytes(rt, &mut pool)?;
+    let b = input::bytes(rt, &mut pool);
     let mut rows = table();
-    let r = input::words(rt, &mut rows)?;
-    let width = input::word(rt)?;
+    let r = input::words(rt, &mut rows);
+    let width = input::word(rt);
     let answer = board::read_tables(width, nodes, props, &pool[..b], &mut rows[..r]);
     let hash = answer.hash;
     say::answer(rt, answer.number, answer.place, answer.count, hash)?;

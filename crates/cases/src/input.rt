@@ -1,55 +1,55 @@
 // SPDX-License-Identifier: BSD-2-Clause OR GPL-2.0-or-later
 // Reading standard input. A word has four bytes, big-endian; in front of a table's elements stands a word that says how many follow. Bytes
-// behind the end of the input are 0.
-ghost use Rattle.std.specs.Io.{ReadsAtMost};
+// behind the end of the input, or behind a read that failed, are 0.
+ghost use Rattle.std.specs.Prelude.{◌≡◌, ◌≤◌, length, take};
 
-use std::io;
 use std::io::Read;
 
-// Fills bytes as far as the input goes; those behind its end stay as they were.
-fn fill(rt: &impl Input, bytes: &mut [u8]) -> io::Result<()> {
+// Fills bytes as far as the input goes; those behind its end, or behind a read that failed, stay as they were.
+fn fill(rt: &impl Input, bytes: &mut [u8]) {
     let mut at: usize = 0;
     while at < bytes.len() {
-        let count = rt.reader().read(&mut bytes[at..])?;
-        if count == 0 {
-            return Ok(());
+        match rt.reader().read(&mut bytes[at..]) {
+            Ok(0) => return,
+            Ok(count) => at += count,
+            Err(_) => return,
         }
-        at += count;
     }
-    Ok(())
 }
 
-pub fn word(rt: &impl Input) -> io::Result<u32> {
+pub fn word(rt: &impl Input) -> u32 {
     let mut bytes = [0u8; 4];
-    fill(rt, &mut bytes)?;
-    Ok(tables::cell_at(&bytes, 0))
+    fill(rt, &mut bytes);
+    tables::cell_at(&bytes, 0)
 }
 
 // The upper word stands first.
-pub fn mpidr(rt: &impl Input) -> io::Result<u64> {
-    let upper = word(rt)?;
-    let lower = word(rt)?;
-    Ok(upper as u64 * 4294967296 + lower as u64)
+pub fn mpidr(rt: &impl Input) -> u64 {
+    let upper = word(rt);
+    let lower = word(rt);
+    upper as u64 * 4294967296 + lower as u64
 }
 
 // Fills the start of a table, and gives how many words it has put there.
-pub fn words(rt: &impl Input, table: &mut [u32]) -> io::Result<usize>
-    ensures { ReadsAtMost result table.new }
+pub fn words(rt: &impl Input, table: &mut [u32]) -> usize
+    ensures within { result ≤ length table.new }
+    ensures whole { result ≡ length (take result table.new) }
 {
-    let count = laws::at_most(word(rt)? as usize, table.len());
+    let count = laws::at_most(word(rt) as usize, table.len());
     let mut i: usize = 0;
     while i < count {
-        table[i] = word(rt)?;
+        table[i] = word(rt);
         i += 1;
     }
-    Ok(count)
+    count
 }
 
 // The same for bytes.
-pub fn bytes(rt: &impl Input, table: &mut [u8]) -> io::Result<usize>
-    ensures { ReadsAtMost result table.new }
+pub fn bytes(rt: &impl Input, table: &mut [u8]) -> usize
+    ensures within { result ≤ length table.new }
+    ensures whole { result ≡ length (take result table.new) }
 {
-    let count = laws::at_most(word(rt)? as usize, table.len());
-    fill(rt, &mut table[..count])?;
-    Ok(count)
+    let count = laws::at_most(word(rt) as usize, table.len());
+    fill(rt, &mut table[..count]);
+    count
 }

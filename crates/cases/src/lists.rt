@@ -9,13 +9,13 @@ const LIST_ROOM: usize = 257;
 // The MPIDR whose slot is asked follows the list.
 pub fn list(rt: &(impl Input + Print)) -> io::Result<()> {
     let mut list = [0u64; LIST_ROOM];
-    let count = laws::at_most(input::word(rt)? as usize, LIST_ROOM);
+    let count = laws::at_most(input::word(rt) as usize, LIST_ROOM);
     let mut i: usize = 0;
     while i < count {
-        list[i] = input::mpidr(rt)?;
+        list[i] = input::mpidr(rt);
         i += 1;
     }
-    ask(rt, input::mpidr(rt)?, &list[..count])
+    ask(rt, input::mpidr(rt), &list[..count])
 }
 
 // The number and the place of the hash, then the slot's answer with the hash.

@@ -21,7 +21,7 @@ const SLOTS: u32 = 3;
 // The kind of a name and its number.
 fn name(rt: &(impl Input + Print)) -> io::Result<()> {
     let mut bytes = [0u8; 96];
-    let count = input::bytes(rt, &mut bytes)?;
+    let count = input::bytes(rt, &mut bytes);
     let name = names::name_of(&bytes[..count]);
     say::told(rt, cpumap::kind_number(name) as u64)?;
     say::told(rt, cpumap::topology_number(name) as u64)
@@ -29,10 +29,10 @@ fn name(rt: &(impl Input + Print)) -> io::Result<()> {
 
 // The first word is the number of cases, and the first of each case is its kind.
 fn main(rt: HostRuntime) -> io::Result<()> {
-    let mut left = input::word(&rt)?;
+    let mut left = input::word(&rt);
     say::told(&rt, left as u64)?;
     while left > 0 {
-        let kind = input::word(&rt)?;
+        let kind = input::word(&rt);
         if kind == BOARD {
             boards::board(&rt)?;
         } else if kind == LIST {

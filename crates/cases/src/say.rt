@@ -7,7 +7,7 @@ use std::io;
 // A number, and the next text of standard input after it.
 pub fn told(rt: &(impl Input + Print), n: u64) -> io::Result<()> {
     let mut text = [0u8; 96];
-    let count = input::bytes(rt, &mut text)?;
+    let count = input::bytes(rt, &mut text);
     print!(rt; "{n}")?;
     rt.write_all(&text[..count])
 }
