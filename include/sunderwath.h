@@ -231,9 +231,9 @@ extern "C" {
  * memcpy take in them. tests/c/stack_test.c measures them.
  *
  * SUNDERWATH_STACK_BYTES is for sunderwath_read_tables and
- * sunderwath_read_tables_slots. The most is needed by 1,024 records nested in
- * the map or below a cpu, as the ancestor test of rule 6 recurses on the
- * parent.
+ * sunderwath_read_tables_slots, however deep the records are nested: of the
+ * ancestor test of rule 6, which recurses on the parent, the compiler made a
+ * loop.
  *
  * SUNDERWATH_FLAT_STACK_BYTES is for sunderwath_read_flat, whatever the blob:
  * nothing recurs, however deep the nodes are nested. 512 of them are a table
@@ -242,8 +242,7 @@ extern "C" {
  *
  * SUNDERWATH_BLOB_STACK_BYTES is for sunderwath_read_blob: its two tables,
  * 32,768 bytes, and what reading them needs. The rows are made in the table of
- * the properties. The most is needed by the boards that SUNDERWATH_STACK_BYTES
- * speaks of.
+ * the properties.
  *
  * SUNDERWATH_SLOT_STACK_BYTES is for sunderwath_slot. sunderwath_list_hash and
  * sunderwath_list_slot need about 100 bytes.
@@ -253,30 +252,30 @@ extern "C" {
  *
  * Other processors have no archive, and none of these five is defined there.
  *
- * Boards without long chains of records need less than the most:
+ * Boards of 16 and of 256 cpus (of a blob as many as 1,024 properties allow)
+ * and 1,024 records nested in each other need the same:
  *                                                 x86-64  aarch64  riscv64
- *   read_tables, 16 and 256 cpus                  16,976   17,144   17,104
- *   read_tables_slots, 16 and 256 cpus            17,008   17,192   17,136
- *   read_blob, 16 cpus and as many as 1,024
- *   properties allow                              49,776   49,928   49,888
+ *   read_tables                                   16,920   16,912   16,840
+ *   read_tables_slots                             16,968   16,976   16,904
+ *   read_blob                                     49,544   49,552   49,528
  */
 #if defined(__aarch64__)
-#define SUNDERWATH_STACK_BYTES 49800
-#define SUNDERWATH_FLAT_STACK_BYTES 760
-#define SUNDERWATH_BLOB_STACK_BYTES 82536
-#define SUNDERWATH_SLOT_STACK_BYTES 2184
+#define SUNDERWATH_STACK_BYTES 16976
+#define SUNDERWATH_FLAT_STACK_BYTES 800
+#define SUNDERWATH_BLOB_STACK_BYTES 49552
+#define SUNDERWATH_SLOT_STACK_BYTES 2192
 #define SUNDERWATH_PLAN_STACK_BYTES 176
 #elif defined(__riscv) && __riscv_xlen == 64
-#define SUNDERWATH_STACK_BYTES 49744
-#define SUNDERWATH_FLAT_STACK_BYTES 768
-#define SUNDERWATH_BLOB_STACK_BYTES 82496
-#define SUNDERWATH_SLOT_STACK_BYTES 2160
+#define SUNDERWATH_STACK_BYTES 16904
+#define SUNDERWATH_FLAT_STACK_BYTES 792
+#define SUNDERWATH_BLOB_STACK_BYTES 49528
+#define SUNDERWATH_SLOT_STACK_BYTES 2184
 #define SUNDERWATH_PLAN_STACK_BYTES 224
 #elif defined(__x86_64__)
-#define SUNDERWATH_STACK_BYTES 49616
-#define SUNDERWATH_FLAT_STACK_BYTES 776
-#define SUNDERWATH_BLOB_STACK_BYTES 82384
-#define SUNDERWATH_SLOT_STACK_BYTES 2184
+#define SUNDERWATH_STACK_BYTES 16968
+#define SUNDERWATH_FLAT_STACK_BYTES 800
+#define SUNDERWATH_BLOB_STACK_BYTES 49544
+#define SUNDERWATH_SLOT_STACK_BYTES 2192
 #define SUNDERWATH_PLAN_STACK_BYTES 160
 #endif
 

@@ -41,7 +41,7 @@
 //! The archive that this crate links, `libsunderwath.a`, is made from proved code: for all inputs, no call reads or writes out of
 //! bounds, each one returns, and answers and rows are what the rules say. This crate is not proved: it lends slices to the calls
 //! and gives names to the words that they write, and is tested. Neither are the compiler's back end and the stack: reading tables
-//! needs about 50 KB of it at most, reading a blob about 82 KB, as `include/sunderwath.h` states.
+//! needs about 17 KB of it at most, reading a blob about 50 KB, as `include/sunderwath.h` states.
 //!
 //! # Building
 //!
