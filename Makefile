@@ -116,7 +116,7 @@ clean:
 	rm -rf target/archive target/cli
 
 distclean:
-	rm -rf target
+	rm -rf target crates/*/out
 
 help:
 	echo 'make             the library and, for this machine, the command line, below target/'
