@@ -7,7 +7,7 @@ use Prim.Native.Nat.{ℕ, suc, ◌≤◌, ◌<◌}
 use native.Mathlib.Omega.{arith}
 use lib.Dec.{eqb}
 use borrow.Author.Tests.{eqb-true, eqb-false}
-use Rattle.laws.specs.declared.Fault.{Fault}
+use Rattle.laws.specs.facts.Told.{Fault}
 use Rattle.laws.specs.facts.First.{First}
 use Rattle.laws.specs.facts.Listing.{Member}
 use Rattle.laws.specs.answers.Fault.{told, or_else}
@@ -16,7 +16,7 @@ use Rattle.laws.proofs.DecideLaws.{among_decides}
 use Rattle.laws.proofs.FirstLaws.{Tells}
 use Rattle.laws.proofs.RuleStageLaws.{Split, split_tells, tells_as, tells_first, tells_none}
 use Rattle.laws.proofs.VerdictLaws.{unless, once_tells}
-use Rattle.affinity.specs.declared.ListSlot.{ListSlot}
+use Rattle.affinity.specs.facts.Told.{ListSlot}
 use Rattle.affinity.specs.facts.List.{SlotRule}
 use Rattle.affinity.specs.answers.List.{slot_behind}
 

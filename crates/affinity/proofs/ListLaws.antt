@@ -13,7 +13,7 @@ use Rattle.laws.specs.answers.Search.{is_among}
 use Rattle.laws.proofs.SearchLaws.{true_false}
 use Rattle.laws.proofs.FaultLaws.{first_is, clear_below, place_le}
 use Rattle.laws.proofs.OrElseLaws.{or_clear}
-use Rattle.affinity.specs.declared.ListMask.{ListMask}
+use Rattle.affinity.specs.facts.Told.{ListMask}
 use Rattle.affinity.specs.declared.mask.Gathered.{Gathered}
 use Rattle.affinity.specs.answers.Level.{is_affine}
 use Rattle.affinity.specs.answers.Hash.{slot_in}

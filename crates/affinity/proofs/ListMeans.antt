@@ -11,8 +11,8 @@ use borrow.Author.Tests.{eqb-true, eqb-false, ltb-true, ltb-false}
 use Rattle.laws.proofs.FirstLaws.{Tells, stage_tells}
 use Rattle.laws.proofs.RuleStageLaws.{then_tells, tells_first, tells_none}
 use Rattle.laws.proofs.VerdictLaws.{Verdict, unless, number_stage, once_tells}
-use Rattle.affinity.specs.declared.ListHash.{ListHash}
-use Rattle.affinity.specs.declared.ListSlot.{ListSlot}
+use Rattle.affinity.specs.facts.Told.{ListHash}
+use Rattle.affinity.specs.facts.Told.{ListSlot}
 use Rattle.affinity.specs.facts.Level.{Affine}
 use Rattle.affinity.specs.answers.Hash.{hash_of, slot_in}
 use Rattle.affinity.specs.answers.List.{length_fault, bit_fault, first_outside, list_fault, hash_answer, slot_answer}

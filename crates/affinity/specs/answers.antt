@@ -4,3 +4,4 @@ pub mod Hash
 pub mod Level
 pub mod List
 pub mod Mask
+pub mod Told

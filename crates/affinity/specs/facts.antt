@@ -5,3 +5,4 @@ pub mod Mask
 pub mod Hash
 pub mod Level
 pub mod List
+pub mod Told

@@ -19,27 +19,3 @@ pub struct Hash {
     pub shifts: [u32; 4],
     pub bits: u32,
 }
-
-// The mask of a list, or the number and the place of what is wrong with it.
-#[derive(Clone, Copy)]
-pub struct ListMask {
-    pub number: u32,
-    pub place: usize,
-    pub mask: u64,
-}
-
-// The hash of a list, or the number and the place of what is wrong with it.
-#[derive(Clone, Copy)]
-pub struct ListHash {
-    pub number: u32,
-    pub place: usize,
-    pub hash: Hash,
-}
-
-// The slot of one MPIDR in a list, or the number and the place of what is wrong.
-#[derive(Clone, Copy)]
-pub struct ListSlot {
-    pub number: u32,
-    pub place: usize,
-    pub slot: u32,
-}

@@ -14,7 +14,7 @@ use Rattle.tokens.specs.facts.Token.{Blocks}
 use Rattle.header.specs.facts.Header.{structure_at, structure_size, strings_at, strings_size, blocks_of}
 use Rattle.header.specs.declared.BlockPlaces.{BlockPlaces}
 use Rattle.header.specs.answers.Fault.{header_fault, blocks_fault, block_places}
-use Rattle.flat.specs.declared.BlobAnswer.{BlobAnswer}
+use Rattle.flat.specs.facts.Told.{BlobAnswer}
 use Rattle.flat.specs.facts.Reading.{BlobReading}
 use Rattle.flat.specs.answers.Answer.{walk_in, blob_refused, walk_answer, blob_answer, filled_in, filled_over, nodes_after, props_after}
 use Rattle.flat.proofs.HeaderMeans.{header_verdict, blocks_verdict}

@@ -12,7 +12,7 @@ use Rattle.tables.specs.facts.Board.{Board, WordSized}
 use Rattle.cpus.specs.answers.Check.{cpu_count}
 use Rattle.rows.specs.answers.Slots.{board_hash}
 use Rattle.rows.specs.answers.Write.{source_of}
-use Rattle.demands.specs.declared.BoardAnswer.{BoardAnswer}
+use Rattle.demands.specs.facts.Told.{BoardAnswer}
 use Rattle.demands.specs.facts.Reading.{rows_in, Demands}
 use Rattle.demands.specs.facts.Slots.{SlotTableDemands}
 use Rattle.demands.specs.answers.Answer.{board_fault, rows_by, answer_of, rows_after}

@@ -15,11 +15,11 @@ use Rattle.leaves.specs.answers.Scan.{leaves_of, named_of}
 use Rattle.rows.specs.declared.BoardSlots.{BoardSlots}
 use Rattle.rows.specs.answers.Slots.{slots_for, slots_of}
 use Rattle.rows.specs.answers.Write.{Source, source}
-use Rattle.demands.specs.declared.BoardAnswer.{BoardAnswer}
+use Rattle.demands.specs.facts.Told.{BoardAnswer}
 use Rattle.demands.specs.answers.Survey.{survey_fault}
 use Rattle.demands.specs.answers.Answer.{rows_by}
-use Rattle.board.specs.declared.Surveyed.{Surveyed}
-use Rattle.board.specs.declared.Checked.{Checked}
+use Rattle.board.specs.steps.Told.{Surveyed}
+use Rattle.board.specs.steps.Told.{Checked}
 use Rattle.board.specs.declared.Asked.{Asked}
 use Rattle.board.specs.steps.Survey.{survey_of, Lists}
 use Rattle.board.specs.steps.Read.{read_fault, checked_of, answer_from}

@@ -7,7 +7,7 @@ use Prim.Native.Nat.{ℕ}
 use lib.Dec.{eqb}
 use lib.ListN.{length}
 use borrow.Author.Tests.{eq-eqb, ne_eqb, eqb-true, eqb-false}
-use Rattle.laws.specs.declared.Fault.{Fault}
+use Rattle.laws.specs.facts.Told.{Fault}
 use Rattle.laws.specs.facts.Limits.{no_property}
 use Rattle.laws.specs.answers.Fault.{told, or_else}
 use Rattle.laws.proofs.FaultLaws.{or_first}
@@ -19,8 +19,8 @@ use Rattle.leaves.specs.answers.Scan.{leaves_of, named_of}
 use Rattle.rows.specs.declared.BoardSlots.{BoardSlots}
 use Rattle.rows.specs.answers.Slots.{slots_of, board_hash}
 use Rattle.rows.specs.answers.Write.{source, written, source_of}
-use Rattle.demands.specs.declared.BoardAnswer.{BoardAnswer}
-use Rattle.board.specs.declared.Surveyed.{Surveyed}
+use Rattle.demands.specs.facts.Told.{BoardAnswer}
+use Rattle.board.specs.steps.Told.{Surveyed}
 use Rattle.board.specs.declared.Asked.{Asked}
 use Rattle.demands.specs.answers.Survey.{survey_fault}
 use Rattle.board.specs.steps.Survey.{stopped, survey_of}

@@ -7,7 +7,7 @@ use native.Mathlib.Omega.{arith}
 use lib.ListN.{length, take, replicate, length-map, length-replicate}
 use lib.Seq.{take_all}
 use borrow.Author.Tests.{eq-eqb}
-use Rattle.laws.specs.declared.Fault.{Fault}
+use Rattle.laws.specs.facts.Told.{Fault}
 use Rattle.laws.specs.answers.Fault.{told}
 use Rattle.laws.specs.answers.Listed.{laid_over}
 use Rattle.laws.specs.answers.Search.{count_below, list_below}
@@ -21,15 +21,15 @@ use Rattle.wellformed.specs.facts.Rules.{WellFormed}
 use Rattle.wellformed.specs.answers.Check.{table_fault}
 use Rattle.wellformed.proofs.RuleLaws.{table_sound}
 use Rattle.cpus.specs.declared.Cells.{Cells}
-use Rattle.cpus.specs.declared.RootReading.{RootReading}
+use Rattle.cpus.specs.facts.Told.{RootReading}
 use Rattle.cpus.specs.declared.CpuNumbers.TheVariants.{Regs, Phandles}
 use Rattle.cpus.specs.answers.Check.{is_cpu, root_reading, root_fault, reg_cells, cpu_count, cpu_list, count_fault, cpu_fault, phandles_fault, phandle_list}
 use Rattle.cpus.specs.answers.Check.{reg_list}
 use Rattle.cpus.specs.answers.Numbers.{reading_at, first_record, numbers_over}
 use Rattle.cpus.proofs.CpuMeans.{cpu_count_lem, count_fits}
-use Rattle.cpumap.specs.declared.MapScan.{MapScan}
+use Rattle.cpumap.specs.facts.Told.{MapScan}
 use Rattle.cpumap.specs.answers.Find.{map_scan}
-use Rattle.leaves.specs.declared.TreeScan.{TreeScan}
+use Rattle.leaves.specs.facts.Told.{TreeScan}
 use Rattle.leaves.specs.answers.Scan.{Tree, lent_tree, leaves_fault, tree_scan, leaves_over, named_over, tree_of, leaves_of, named_of}
 use Rattle.leaves.proofs.ScanLaws.{leaves_listed, named_listed}
 use Rattle.demands.specs.answers.Survey.{survey_fault}

@@ -8,7 +8,7 @@ use native.Mathlib.Omega.{arith}
 use lib.ListN.{length, take, replicate, length-map}
 use lib.Seq.{take_all}
 use borrow.Author.Tests.{eq-eqb, ne_eqb}
-use Rattle.laws.specs.declared.Fault.{Fault}
+use Rattle.laws.specs.facts.Told.{Fault}
 use Rattle.laws.specs.answers.Fault.{told, or_else}
 use Rattle.laws.specs.answers.Search.{count_below, list_below}
 use Rattle.laws.proofs.FaultLaws.{or_first}
@@ -24,7 +24,7 @@ use Rattle.property_index.specs.declared.Key.TheVariants.{Cpu}
 use Rattle.property_index.specs.facts.Key.{key_name}
 use Rattle.property_index.specs.answers.Index.{indexed, indexed_at}
 use Rattle.property_index.proofs.IndexLaws.{index_finds}
-use Rattle.cpus.specs.declared.CpuReading.{CpuReading}
+use Rattle.cpus.specs.facts.Told.{CpuReading}
 use Rattle.cpus.specs.declared.CpuNumbers.{CpuNumbers}
 use Rattle.cpus.specs.answers.Check.{is_cpu, root_fault, cpu_count, cpu_list, count_fault, phandle_readings, cpu_fault, cpus_fault, phandles_fault}
 use Rattle.cpus.specs.answers.Check.{phandle_list}
@@ -36,7 +36,7 @@ use Rattle.leaves.specs.answers.Scan.{lent_tree, leaves_fault, tree_of, leaves_o
 use Rattle.leaves.proofs.PropertyLaws.{same_cpus}
 use Rattle.leaves.proofs.ScanLaws.{leaves_few}
 use Rattle.laws.specs.answers.Listed.{laid_over}
-use Rattle.board.specs.declared.Surveyed.{Surveyed}
+use Rattle.board.specs.steps.Told.{Surveyed}
 use Rattle.demands.specs.answers.Survey.{survey_fault}
 use Rattle.board.specs.steps.Survey.{stopped, survey_of}
 use Rattle.demands.proofs.LayerLaws.{few_cpus}

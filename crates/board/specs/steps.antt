@@ -2,3 +2,4 @@
 -- What contracts inside the crate and its proofs use.
 pub mod Survey
 pub mod Read
+pub mod Told

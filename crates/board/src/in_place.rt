@@ -3,13 +3,14 @@
 ghost use Rattle.std.specs.Prelude.{◌≡◌, min, length, take};
 ghost use Rattle.tables.specs.facts.Board.{board};
 ghost use Rattle.rows.specs.answers.Write.{source_of};
+ghost use Rattle.demands.specs.answers.Told.{board_told};
 ghost use Rattle.demands.specs.answers.Answer.{board_fault, answer_of, rows_by};
 
 use crate::Asked;
 use crate::read::{check_rooms, write};
 use crate::survey::survey;
-use demands::BoardAnswer;
-use laws::at_most;
+use demands::BoardRows;
+use laws::Refusal;
 use laws::limits::MAX_CPUS;
 
 // Reads a board's tables, for a row buffer of `room` words elsewhere. The first `words` words of `table` are the property table; where no rule
@@ -21,9 +22,9 @@ pub fn read_in_place(
     words: usize,
     pool: &[u8],
     room: usize,
-) -> BoardAnswer
+) -> Result<BoardRows, Refusal>
     ensures answer { let b = board width nodes.now (take words table.old) pool.now in
-        result ≡ answer_of b (min room (length table.old)) }
+        board_told result ≡ answer_of b (min room (length table.old)) }
     ensures rows { let b = board width nodes.now (take words table.old) pool.now in
         let fault = board_fault b (min room (length table.old)) in
         table.new ≡ rows_by fault (source_of b) table.old }

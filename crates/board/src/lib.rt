@@ -7,56 +7,36 @@ mod read;
 mod survey;
 
 ghost use Rattle.std.specs.Prelude.{◌≡◌, length};
-ghost use Rattle.tables.specs.facts.Board.{board};
+ghost use Rattle.tables.specs.facts.Board.{board_of};
+ghost use Rattle.demands.specs.answers.Told.{board_told};
 ghost use Rattle.demands.specs.answers.Answer.{answer_of, rows_after};
 ghost use Rattle.demands.specs.answers.Slots.{slots_answer, slots_rows, slots_table};
 ghost use Rattle.demands.specs.facts.Reading.{Demands};
 ghost use Rattle.demands.specs.facts.Slots.{SlotTableDemands};
 
-use demands::BoardAnswer;
+use demands::BoardRows;
 pub use in_place::read_in_place;
-use laws::Fault;
+use laws::Refusal;
 use layout::ROW_WORDS;
 use read::read;
-use rows::BoardSlots;
+use tables::Tables;
 
-// What a survey answers: no fault, with the counts of the cpu records and of the leaves; or a fault, with which these are 0.
+// What a survey counts: the cpu records and the leaves.
 #[derive(Clone, Copy)]
-struct Surveyed {
-    pub fault: Fault,
+struct Counts {
     pub cpus: usize,
     pub leaves: usize,
-}
-
-// What is told of a surveyed board and of the room lent for its rows, the count of its cpu records and how its slots are made.
-#[derive(Clone, Copy)]
-struct Checked {
-    pub fault: Fault,
-    pub count: usize,
-    pub slots: BoardSlots,
-}
-
-// What is asked for: the rows alone, or a table of slots, too, for which so many entries are lent.
-#[derive(Clone, Copy)]
-enum Asked {
-    Rows,
-    Slots(usize),
 }
 
 // Reads a board's tables.
 pub fn read_tables(
     width: u32,
-    nodes: &[u32],
-    props: &[u32],
-    pool: &[u8],
+    tables: &Tables,
     rows: &mut [u32],
-) -> BoardAnswer
-    ensures answer { let b = board width nodes.now props.now pool.now in
-        result ≡ answer_of b (length rows.old) }
-    ensures rows { let b = board width nodes.now props.now pool.now in
-        rows.new ≡ rows_after b rows.old }
-    ensures demands { let b = board width nodes.now props.now pool.now in
-        Demands b rows.old result rows.new }
+) -> Result<BoardRows, Refusal>
+    ensures answer { board_told result ≡ answer_of (board_of width tables.now) (length rows.old) }
+    ensures rows { rows.new ≡ rows_after (board_of width tables.now) rows.old }
+    ensures demands { Demands (board_of width tables.now) rows.old (board_told result) rows.new }
 {
     read(width, nodes, props, pool, rows, Asked::Rows)
 }
@@ -64,20 +44,18 @@ pub fn read_tables(
 // Reads a board's tables, and fills a table of slots.
 pub fn read_slots(
     width: u32,
-    nodes: &[u32],
-    props: &[u32],
-    pool: &[u8],
+    tables: &Tables,
     rows: &mut [u32],
     table: &mut [u32],
-) -> BoardAnswer
-    ensures answer { let b = board width nodes.now props.now pool.now in
-        result ≡ slots_answer b (length rows.old) (length table.old) }
-    ensures rows { let b = board width nodes.now props.now pool.now in
+) -> Result<BoardRows, Refusal>
+    ensures answer { let b = board_of width tables.now in
+        board_told result ≡ slots_answer b (length rows.old) (length table.old) }
+    ensures rows { let b = board_of width tables.now in
         rows.new ≡ slots_rows b rows.old (length table.old) }
-    ensures table { let b = board width nodes.now props.now pool.now in
+    ensures table { let b = board_of width tables.now in
         table.new ≡ slots_table b rows.old table.old }
-    ensures demands { let b = board width nodes.now props.now pool.now in
-        SlotTableDemands b rows.old table.old result rows.new table.new }
+    ensures demands { let b = board_of width tables.now in
+        SlotTableDemands b rows.old table.old (board_told result) rows.new table.new }
 {
     let entries = table.len();
     let answer = read(width, nodes, props, pool, rows, Asked::Slots(entries));

@@ -1,5 +1,6 @@
 -- SPDX-License-Identifier: BSD-2-Clause OR GPL-2.0-or-later
 -- What the proofs of the code cite of the definitions. Assumes nothing.
+use Rattle.std.specs.Prelude.{None, Some}
 use mathlib.Core.Path.{◌≡◌, sym, ap, ap₂, ◌∙◌}
 use mathlib.Core.Bool.{Bool, true, false, cond}
 use mathlib.Core.List.{List}
@@ -8,14 +9,13 @@ use native.Mathlib.Omega.{arith}
 use lib.Dec.{ltb}
 use lib.ListN.{length, set}
 use borrow.Author.Tests.{lt-ltb, le-ltb, le-leb, lt-leb, eq-eqb, ne_eqb}
-use Rattle.laws.specs.declared.Fault.{Fault}
+use Rattle.laws.specs.facts.Told.{Fault}
 use Rattle.laws.specs.answers.Fault.{plain, first_fault}
 use Rattle.layout.specs.facts.Row.{gap}
 use Rattle.names.specs.declared.TopologyName.{TopologyName}
 use Rattle.names.specs.declared.TopologyName.TheVariants.{Socket, Cluster, Core, Thread, Other}
 use Rattle.names.specs.answers.Name.{name_of}
 use Rattle.tables.specs.facts.Board.{node_count, range, name_offset, name_length}
-use Rattle.tables.specs.declared.Parent.TheVariants.{Record, Top}
 use Rattle.tables.specs.answers.Tree.{parent_of, climb}
 use Rattle.tables.proofs.TreeLaws.{parent_is, parent_top, the_parent, climb_parent, climb_none, climb_keeps}
 use Rattle.cpumap.specs.declared.ClusterPath.{ClusterPath}
@@ -62,36 +62,36 @@ module _ (nodes pool : List ℕ) (i : ℕ) where
 
   -- a value by recursion on the parent, at a record with a parent
   climb_is :
-      {A : Type 0} (top : A) (step : ℕ → A → A) (p : ℕ) → parent_of nodes i ≡ Record p → step i (climb nodes top step p) ≡ climb nodes top step i
+      {A : Type 0} (top : A) (step : ℕ → A → A) (p : ℕ) → parent_of nodes i ≡ Some p → step i (climb nodes top step p) ≡ climb nodes top step i
   climb_is top step p h =
       let at = parent_is nodes i p h in
       ap (λ (q : ℕ). step i (climb nodes top step q)) (sym at.1) ∙ climb_parent nodes top step i at.0
 
   -- the clusters and the socket above record i
-  pub path_none : parent_of nodes i ≡ Top → no_clusters ≡ cluster_path nodes pool i
+  pub path_none : parent_of nodes i ≡ None → no_clusters ≡ cluster_path nodes pool i
   unfolding cluster_path
   path_none h = climb_none nodes no_clusters (λ j path. cluster_step (topology_name nodes pool j) path) i (parent_top nodes i h)
 
-  pub path_is : (p : ℕ) → parent_of nodes i ≡ Record p → cluster_step (topology_name nodes pool i) (cluster_path nodes pool p) ≡ cluster_path nodes pool i
+  pub path_is : (p : ℕ) → parent_of nodes i ≡ Some p → cluster_step (topology_name nodes pool i) (cluster_path nodes pool p) ≡ cluster_path nodes pool i
   unfolding cluster_path
   path_is p h = climb_is no_clusters (λ j path. cluster_step (topology_name nodes pool j) path) p h
 
-  pub socket_none : parent_of nodes i ≡ Top → gap ≡ socket_number nodes pool i
+  pub socket_none : parent_of nodes i ≡ None → gap ≡ socket_number nodes pool i
   unfolding socket_number
   socket_none h = climb_none nodes gap (λ j socket. socket_step (topology_name nodes pool j) socket) i (parent_top nodes i h)
 
   pub socket_is :
-      (p : ℕ) → parent_of nodes i ≡ Record p → socket_step (topology_name nodes pool i) (socket_number nodes pool p) ≡ socket_number nodes pool i
+      (p : ℕ) → parent_of nodes i ≡ Some p → socket_step (topology_name nodes pool i) (socket_number nodes pool p) ≡ socket_number nodes pool i
   unfolding socket_number
   socket_is p h = climb_is gap (λ j socket. socket_step (topology_name nodes pool j) socket) p h
 
   -- both together
-  pub position_none : parent_of nodes i ≡ Top → no_position ≡ position_of nodes pool i
+  pub position_none : parent_of nodes i ≡ None → no_position ≡ position_of nodes pool i
   unfolding position_of
   position_none h = ap₂ both (socket_none h) (path_none h)
 
   pub position_is :
-      (p : ℕ) → parent_of nodes i ≡ Record p → position_step (topology_name nodes pool i) (position_of nodes pool p) ≡ position_of nodes pool i
+      (p : ℕ) → parent_of nodes i ≡ Some p → position_step (topology_name nodes pool i) (position_of nodes pool p) ≡ position_of nodes pool i
   unfolding position_of
   position_is p h = ap₂ both (socket_is p h) (path_is p h)
 

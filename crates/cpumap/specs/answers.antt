@@ -3,3 +3,4 @@
 pub mod Find
 pub mod Number
 pub mod Path
+pub mod Told

@@ -1,14 +1,14 @@
 // SPDX-License-Identifier: BSD-2-Clause OR GPL-2.0-or-later
 // Finding the map: rules 15 and 16.
 ghost use Rattle.std.specs.Prelude.{◌≡◌};
+ghost use Rattle.laws.specs.answers.Told.{number_in, told_in};
+ghost use Rattle.cpumap.specs.answers.Told.{map_told};
 ghost use Rattle.laws.specs.answers.Fault.{first_fault};
 ghost use Rattle.tables.specs.facts.Board.{node_count};
 ghost use Rattle.cpumap.specs.answers.Find.{is_map_name, is_map, map_of, second_map_fault, map_scan};
 
-use crate::MapScan;
-use laws::limits::NO_PROPERTY;
-use laws::{CLEAR, Fault, rules};
-use tables::{binding, cell_at, is_child, node_word};
+use laws::{Refusal, Rule};
+use tables::{Tables, binding, cell_at, is_child, node_word};
 
 // Whether record i is named `cpu-map`: seven bytes, by the cells at their start and at their end.
 fn is_map_name(nodes: &[u32], pool: &[u8], i: usize) -> bool
@@ -86,8 +86,8 @@ fn second_map(nodes: &[u32], pool: &[u8], map: usize) -> Fault
 }
 
 // The map's record, or the first of rules 15 and 16 that is broken.
-pub fn find_map(nodes: &[u32], pool: &[u8]) -> MapScan
-    ensures { result ≡ map_scan nodes.now pool.now }
+pub fn find_map(tables: &Tables) -> Result<usize, Refusal>
+    ensures { map_told result ≡ map_scan tables.now.nodes.now tables.now.pool.now }
 {
     let map = lowest_map(nodes, pool);
     if nodes.len() / 3 <= map {

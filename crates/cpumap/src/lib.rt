@@ -9,7 +9,6 @@ mod path;
 mod positions;
 
 pub use find::find_map;
-use laws::Fault;
 pub use number::{kind_number, topology_number};
 pub use numbered::has_number;
 pub use path::topology_name;
@@ -27,11 +26,4 @@ pub struct ClusterPath {
 pub struct Position {
     pub socket: u32,
     pub clusters: ClusterPath,
-}
-
-// The first of rules 15 and 16 that is broken, or the map's record.
-#[derive(Clone, Copy)]
-pub struct MapScan {
-    pub fault: Fault,
-    pub map: usize,
 }

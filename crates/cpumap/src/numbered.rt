@@ -7,7 +7,7 @@ ghost use Rattle.cpumap.specs.steps.LastDigit.{ends_otherwise};
 
 use crate::number::{kind_number, topology_number};
 use crate::path::topology_name;
-use tables::{is_inside, node_word};
+use tables::{Tables, is_inside, node_word};
 
 // Whether the name of record i lies inside the pool and ends in another byte than the last digit of n.
 fn ends_otherwise(nodes: &[u32], pool: &[u8], i: usize, n: u32) -> bool
@@ -29,8 +29,8 @@ fn ends_otherwise(nodes: &[u32], pool: &[u8], i: usize, n: u32) -> bool
 }
 
 // Whether the name of record i is a topology name with the number n. Most names with other numbers are known by their last byte.
-pub fn has_number(nodes: &[u32], pool: &[u8], i: usize, n: u32) -> bool
-    ensures { result ≡ is_numbered n (topology_name nodes.now pool.now i) }
+pub fn has_number(tables: &Tables, i: usize, n: u32) -> bool
+    ensures { result ≡ is_numbered n (topology_name tables.now.nodes.now tables.now.pool.now i) }
 {
     if ends_otherwise(nodes, pool, i, n) {
         return false;

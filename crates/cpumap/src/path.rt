@@ -6,11 +6,11 @@ ghost use Rattle.cpumap.specs.answers.Path.{topology_name, no_clusters, extend, 
 use crate::ClusterPath;
 use layout::GAP;
 use names::{TopologyName, name_of};
-use tables::node_word;
+use tables::{Tables, node_word};
 
 // What record i's name says. Other where it is no record or its name leaves the pool.
-pub fn topology_name(nodes: &[u32], pool: &[u8], i: usize) -> TopologyName
-    ensures { result ≡ topology_name nodes.now pool.now i }
+pub fn topology_name(tables: &Tables, i: usize) -> TopologyName
+    ensures { result ≡ topology_name tables.now.nodes.now tables.now.pool.now i }
 {
     if nodes.len() / 3 <= i {
         return TopologyName::Other;

@@ -8,7 +8,7 @@ use crate::path::{cluster_step, topology_name};
 use crate::{ClusterPath, Position};
 use layout::GAP;
 use names::TopologyName;
-use tables::{Parent, parent_of};
+use tables::{Tables, parent_of};
 
 // A record's socket, from its name and its parent's socket.
 fn socket_step(name: TopologyName, above: u32) -> u32
@@ -44,8 +44,8 @@ fn position_step(name: TopologyName, above: Position) -> Position
 }
 
 // The position of record i.
-pub fn position_of(nodes: &[u32], pool: &[u8], i: usize) -> Position
-    ensures { result ≡ position_of nodes.now pool.now i }
+pub fn position_of(tables: &Tables, i: usize) -> Position
+    ensures { result ≡ position_of tables.now.nodes.now tables.now.pool.now i }
 {
     let parent = parent_of(nodes, i);
     let Parent::Record(p) = parent else {

@@ -7,7 +7,7 @@ use Rattle.laws.proofs.FirstLaws.{compared}
 use Rattle.laws.proofs.VerdictLaws.{held}
 use Rattle.tables.specs.facts.Board.{Board, WordSized}
 use Rattle.wellformed.specs.facts.Rules.{WellFormed}
-use Rattle.cpus.specs.declared.CpuReading.{CpuReading}
+use Rattle.cpus.specs.facts.Told.{CpuReading}
 use Rattle.cpus.specs.facts.Node.{Cpu, Reg, reg_number, Phandle}
 use Rattle.cpus.specs.facts.Rules.{CpuRule, SoundCpus, PhandleRule, SoundPhandles}
 use Rattle.cpus.specs.answers.Check.{reg_at, phandle_readings}

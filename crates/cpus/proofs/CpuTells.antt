@@ -1,5 +1,6 @@
 -- SPDX-License-Identifier: BSD-2-Clause OR GPL-2.0-or-later
 -- The checks of rules 9 to 13, 36 and 37 and of rule 17 tell the first of them that is broken. Assumes nothing.
+use Rattle.std.specs.Prelude.{Option}
 use mathlib.Core.Path.{◌≡◌, refl}
 use Prim.Native.Nat.{ℕ, ◌≤◌}
 use native.Mathlib.Omega.{arith}
@@ -14,7 +15,6 @@ use Rattle.tables.specs.answers.Lookup.{lookup, record_of}
 use Rattle.tables.specs.facts.Board.{Board, WordSized, node_count}
 use Rattle.wellformed.specs.facts.Order.{stage}
 use Rattle.wellformed.specs.facts.Rules.{WellFormed}
-use Rattle.cpus.specs.declared.Value.{Value}
 use Rattle.cpus.specs.answers.Cell.{cell_of}
 use Rattle.cpus.specs.facts.Rules.{CpuRule, SoundCpus, PhandleRule, SoundPhandles}
 use Rattle.cpus.specs.answers.Check.{is_cpu, address_cells, name_fault, address_fault, size_fault, told_of_root, root_fault, cpu_count}
@@ -104,7 +104,7 @@ module _ (b : Board) where
       (told_place (address_fault (address_cells b)) 0)
       (λ _. told_place (size_fault size) 0))
     where
-      size : Value
+      size : Option ℕ
       size = cell_of b.props b.pool 0 size_cells_key
 
   pub cpus_place : (cpus_fault b).place ≤ node_count b.nodes

@@ -1,5 +1,7 @@
 -- SPDX-License-Identifier: BSD-2-Clause OR GPL-2.0-or-later
 -- What the checks of rules 9 to 13, 17, 36 and 37 answer of one place: what the board then has, or the rule that it breaks. Assumes nothing.
+use Rattle.std.specs.Prelude.{Option}
+use Rattle.cpus.specs.declared.Cells.{Cells}
 use mathlib.Core.Path.{◌≡◌, refl, sym, ap₂, ◌∙◌}
 use mathlib.Core.Bool.{Bool, true, false, cond}
 use Prim.Native.Nat.{ℕ, ◌≤◌, ◌<◌}
@@ -13,13 +15,12 @@ use Rattle.tables.specs.answers.Range.{range_is}
 use Rattle.tables.specs.facts.Property.{HasValue}
 use Rattle.wellformed.specs.facts.Rules.{WellFormed}
 use Rattle.wellformed.proofs.WellFormedLaws.{wf_nodes, wf_name}
-use Rattle.cpus.specs.declared.RootCells.{RootCells}
 use Rattle.tables.specs.facts.Binding.{device_type_key, cpus_word, cpu_string, size_cells_key}
 use Rattle.cpus.specs.facts.Node.{Cpu, AddressCells, SizeCells, Reg, reg_number, Phandle}
 use Rattle.laws.specs.facts.Limits.{max_cpus}
 use Rattle.cpus.specs.facts.Rules.{CpuRule, PhandleRule}
 use Rattle.cpus.specs.answers.Cell.{cell_of, is_number}
-use Rattle.cpus.specs.declared.CpuReading.{CpuReading}
+use Rattle.cpus.specs.facts.Told.{CpuReading}
 use Rattle.cpus.specs.answers.Numbers.{unless_seen}
 use Rattle.cpus.specs.answers.Check.{address_cells, cells_of, name_fault, address_fault, size_fault, is_cpu}
 use Rattle.cpus.specs.answers.Check.{cpu_count, cpu_list, count_fault, reg_readings}
@@ -75,7 +76,7 @@ module _ {b : Board} (sized : WordSized b) (well : WellFormed b) where
   pub address_told : Verdict (CpuRule b) 36 0 (CellsRead b) (address_fault (address_cells b))
   address_told = go (cells_say sized well)
     where
-      go : {r : RootCells} → CellsSay b r → Verdict (CpuRule b) 36 0 (AddressCells b (count_of (cells_of r))) (address_fault r)
+      go : {r : Option Cells} → CellsSay b r → Verdict (CpuRule b) 36 0 (AddressCells b (count_of (cells_of r))) (address_fault r)
       go (CellsSay.none f) = Verdict.broken (CpuRule.cpus_address_cells f)
       go (CellsSay.cells a) = Verdict.sound a
 

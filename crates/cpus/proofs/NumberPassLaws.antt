@@ -10,14 +10,14 @@ use lib.Dec.{eqb}
 use lib.ListN.{length, get_or, take, set, length-map, length-take}
 use lib.Seq.{length-take-le, take-suc, get_or-take}
 use borrow.Author.Tests.{ne_eqb}
-use Rattle.laws.specs.declared.Fault.{Fault}
+use Rattle.laws.specs.facts.Told.{Fault}
 use Rattle.laws.specs.answers.Fault.{clear, first_fault, with_second}
 use Rattle.laws.specs.answers.Search.{is_among}
 use Rattle.laws.specs.answers.Listed.{laid_over, fault_of_member, members_passed}
 use Rattle.laws.proofs.FaultLaws.{clear_more, at_fault, at_end}
 use Rattle.laws.proofs.SecondPlaceLaws.{second_at}
 use Rattle.laws.proofs.OverLaws.{over_none, over_length, over_front, over_push}
-use Rattle.cpus.specs.declared.CpuReading.{CpuReading}
+use Rattle.cpus.specs.facts.Told.{CpuReading}
 use Rattle.cpus.specs.answers.Numbers.{cpu_reading, unless_seen, listed_fault, first_index, first_record, numbers_over}
 
 -- a reading keeps its value and its second place where it is refused

@@ -1,5 +1,7 @@
 -- SPDX-License-Identifier: BSD-2-Clause OR GPL-2.0-or-later
 -- What `#address-cells`, `reg` and `phandle` are read as. Assumes nothing.
+use Rattle.std.specs.Prelude.{None, Option, Some}
+use Rattle.tables.specs.declared.Found.{Found}
 use mathlib.Core.Path.{◌≡◌, refl, sym, ap, ◌∙◌}
 use mathlib.Core.Bool.{Bool, true, false, cond}
 use mathlib.Core.Logic.{◌⊎◌, inl, inr, ⊎_elim}
@@ -16,17 +18,12 @@ use Rattle.affinity.specs.answers.Level.{is_affine}
 use Rattle.affinity.proofs.AffineLaws.{test_affine}
 use Rattle.tables.specs.facts.Board.{Board, WordSized, arm64, riscv, HasMpidrs}
 use Rattle.tables.specs.facts.Property.{HasValue, cell_bytes}
-use Rattle.tables.specs.declared.Lookup.{Lookup}
 use Rattle.tables.specs.answers.Lookup.{lookup, record_of}
 use Rattle.wellformed.specs.facts.Rules.{WellFormed}
 use Rattle.tables.proofs.CellLaws.{cell_bytes_apart}
 use Rattle.cpus.specs.declared.Cells.{Cells}
 use Rattle.cpus.specs.declared.Cells.TheVariants.{One, Two}
-use Rattle.cpus.specs.declared.RootCells.{RootCells}
-use Rattle.cpus.specs.declared.RootCells.TheVariants.{Are, Broken}
-use Rattle.cpus.specs.declared.Value.{Value}
-use Rattle.cpus.specs.declared.Value.TheVariants.{Number, Invalid}
-use Rattle.cpus.specs.declared.CpuReading.{CpuReading}
+use Rattle.cpus.specs.facts.Told.{CpuReading}
 use Rattle.tables.specs.facts.Binding.{reg_key, phandle_key, device_type_key, cpu_string, address_cells_key}
 use Rattle.cpus.specs.answers.Cell.{cpu_cell, is_reg, reg_in, phandle_in, cell_of}
 use Rattle.cpus.specs.facts.Node.{CellsAllowed, AddressCells, OnlyCell, Reg, reg_number, Phandle}
@@ -52,9 +49,9 @@ abbrev pub CellsRead : Board → Type 0
 CellsRead b = AddressCells b (count_of (reg_cells b))
 
 -- what the address cells say of a board
-pub data CellsSay (b : Board) : RootCells → Type 0 where
-  cells : {c : Cells} → AddressCells b (count_of c) → CellsSay b (Are c)
-  none : ((n : ℕ) → AddressCells b n → ⊥) → CellsSay b Broken
+pub data CellsSay (b : Board) : Option Cells → Type 0 where
+  cells : {c : Cells} → AddressCells b (count_of c) → CellsSay b (Some c)
+  none : ((n : ℕ) → AddressCells b n → ⊥) → CellsSay b None
 
 -- two address cells are of MPIDRs
 two_mpidrs : {b : Board} → AddressCells b 2 → HasMpidrs b
@@ -182,14 +179,14 @@ module _ {b : Board} (sized : WordSized b) (well : WellFormed b) where
           eqb w 2 ≡ s →
           (r : Bool) →
           eqb b.width arm64 ≡ r →
-          CellsSay b (cond t (Are One) (cond s (cond r (Are Two) Broken) Broken))
+          CellsSay b (cond t (Some One) (cond s (cond r (Some Two) None) None))
       pick {w} h lt true e s f r g = CellsSay.cells {c = One} (record { value = rw (eqb-true w 1 e) at h; allowed = CellsAllowed.one })
       pick {w} h lt false e true f true g =
           CellsSay.cells {c = Two} (record { value = rw (eqb-true w 2 f) at h; allowed = rw (eqb-true b.width arm64 g) CellsAllowed.two })
       pick {w} h lt false e true f false g = CellsSay.none (refuse h lt (eqb-false w 1 e) (λ _. eqb-false b.width arm64 g))
       pick {w} h lt false e false f r g = CellsSay.none (refuse h lt (eqb-false w 1 e) (λ q _. eqb-false w 2 f q))
 
-      go : {v : Value} → ValueSays b One 0 address_cells_key v → CellsSay b (cells_for b.width v)
+      go : {v : Option ℕ} → ValueSays b One 0 address_cells_key v → CellsSay b (cells_for b.width v)
       go (ValueSays.number {n = w} h lt) = pick h lt (eqb w 1) refl (eqb w 2) refl (eqb b.width arm64) refl
       go (ValueSays.none n) = CellsSay.none (λ m a. n (cell_bytes m) a.value refl)
 
@@ -209,7 +206,7 @@ phandle_unique well {i} {g} {h} p q = cell_bytes_apart g h p.word q.word (value_
 
 module _ {b : Board} (sized : WordSized b) (well : WellFormed b) (i : ℕ) where
   -- where a property stands
-  abbrev at : List ℕ → Lookup
+  abbrev at : List ℕ → Option Found
   at key = lookup b.props b.pool i key
 
   module _ (a : CellsRead b) where
@@ -224,7 +221,7 @@ module _ {b : Board} (sized : WordSized b) (well : WellFormed b) (i : ℕ) where
             n < limit (reg_cells b) →
             (t : Bool) →
             is_reg b.width n ≡ t →
-            RegSays b i (number_or 12 (at reg_key) no_property (cond t (Number n) Invalid))
+            RegSays b i (number_or 12 (at reg_key) no_property (cond t (Some n) None))
         pick kind h lt true e = let t = number_reg well (reg_cells b) a h lt e in RegSays.reg kind t.2 t.3
         pick kind h lt false e =
             RegSays.unread kind
@@ -233,7 +230,7 @@ module _ {b : Board} (sized : WordSized b) (well : WellFormed b) (i : ℕ) where
         go :
             (s : Bool) →
             Decides s (HasValue b i device_type_key cpu_string) →
-            {v : Value} →
+            {v : Option ℕ} →
             ValueSays b (reg_cells b) i reg_key v →
             RegSays b i (cond s (number_or 12 (at reg_key) no_property (reg_in b.width v)) (cpu_reading 11 (record_of (at device_type_key)) 0))
         go false kind v = RegSays.untyped ((decides_not kind).0 refl)
@@ -265,13 +262,13 @@ module _ {b : Board} (sized : WordSized b) (well : WellFormed b) (i : ℕ) where
           eqb w 0 ≡ t →
           (s : Bool) →
           eqb w 0xFFFFFFFF ≡ s →
-          PhandleSays b i (number_or 17 (at phandle_key) (record_of (at phandle_key)) (cond t Invalid (cond s Invalid (Number w))))
+          PhandleSays b i (number_or 17 (at phandle_key) (record_of (at phandle_key)) (cond t None (cond s None (Some w))))
       pick {w} v lt true e s f = PhandleSays.none (λ h p. p.not_zero (sym (same v lt p) ∙ eqb-true w 0 e))
       pick {w} v lt false e true f = PhandleSays.none (λ h p. p.not_ones (sym (same v lt p) ∙ eqb-true w 0xFFFFFFFF f))
       pick {w} v lt false e false f =
           PhandleSays.phandle (record { value = v; word = lt; not_zero = eqb-false w 0 e; not_ones = eqb-false w 0xFFFFFFFF f })
 
-      go : {x : Value} → ValueSays b One i phandle_key x → PhandleSays b i (number_or 17 (at phandle_key) (record_of (at phandle_key)) (phandle_in x))
+      go : {x : Option ℕ} → ValueSays b One i phandle_key x → PhandleSays b i (number_or 17 (at phandle_key) (record_of (at phandle_key)) (phandle_in x))
       go (ValueSays.number {n = w} v lt) = pick v lt (eqb w 0) refl (eqb w 0xFFFFFFFF) refl
       go (ValueSays.none n) = PhandleSays.none (λ h p. n (cell_bytes h) p.value refl)
 

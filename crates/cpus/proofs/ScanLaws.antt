@@ -20,7 +20,7 @@ use Rattle.property_index.specs.declared.Key.{Key}
 use Rattle.property_index.specs.facts.Key.{key_name}
 use Rattle.property_index.specs.answers.Index.{indexed_at}
 use Rattle.cpus.specs.declared.CpuNumbers.{CpuNumbers}
-use Rattle.cpus.specs.declared.CpuReading.{CpuReading}
+use Rattle.cpus.specs.facts.Told.{CpuReading}
 use Rattle.cpus.specs.answers.Numbers.{reading_from, reading_at, reading_of, unless_seen, listed_fault, first_index, first_record, numbers_over}
 
 -- what place i that passes p breaks, 0 where nothing, given the readings of all

@@ -1,5 +1,7 @@
 -- SPDX-License-Identifier: BSD-2-Clause OR GPL-2.0-or-later
 -- The second place of what is told of cpu nodes and of their phandles. Assumes nothing.
+use Rattle.std.specs.Prelude.{None, Option, Some}
+use Rattle.cpus.specs.declared.Cells.{Cells}
 use mathlib.Core.Path.{◌≡◌, refl, sym, ◌∙◌}
 use mathlib.Core.Bool.{Bool, true, false, cond}
 use mathlib.Core.Logic.{◌⊎◌, inl, inr, ⊎_elim}
@@ -9,7 +11,7 @@ use lib.Dec.{eqb, ltb}
 use lib.ListN.{length, get_or, take}
 use Rattle.laws.specs.facts.First.{has}
 use Rattle.laws.specs.facts.Limits.{max_cpus, no_property}
-use Rattle.laws.specs.declared.Fault.{Fault}
+use Rattle.laws.specs.facts.Told.{Fault}
 use Rattle.laws.specs.answers.Fault.{told}
 use Rattle.laws.specs.answers.Listed.{fault_of_member}
 use Rattle.laws.specs.answers.Search.{is_among}
@@ -23,11 +25,7 @@ use Rattle.tables.specs.answers.Range.{range_is}
 use Rattle.tables.proofs.SecondLaws.{spoken, HasSecond, second_found, unspoken, told_second, else_second, with_second_lem}
 use Rattle.cpus.specs.declared.CpuNumbers.{CpuNumbers}
 use Rattle.cpus.specs.declared.CpuNumbers.TheVariants.{Regs, Phandles}
-use Rattle.cpus.specs.declared.CpuReading.{CpuReading}
-use Rattle.cpus.specs.declared.RootCells.{RootCells}
-use Rattle.cpus.specs.declared.RootCells.TheVariants.{Are, Broken}
-use Rattle.cpus.specs.declared.Value.{Value}
-use Rattle.cpus.specs.declared.Value.TheVariants.{Number, Invalid}
+use Rattle.cpus.specs.facts.Told.{CpuReading}
 use Rattle.cpus.specs.answers.Cell.{value_in, cell_in, cell_of, is_number, reg_in, phandle_in, cpu_cell}
 use Rattle.cpus.specs.answers.Check.{address_cells, name_fault, address_fault, size_fault, told_of_root, root_fault, cpu_count, count_fault, cpu_fault}
 use Rattle.cpus.specs.answers.Check.{cpu_list, reg_cells, cpus_fault, phandles_fault}
@@ -57,16 +55,16 @@ module _ (b : Board) where
       (of_root (address_fault (address_cells b)) Concerns.address_cells (address (address_cells b)))
       (of_root (size_fault cell) Concerns.size_cells (size (is_number cell 0))))
     where
-      cell : Value
+      cell : Option ℕ
       cell = cell_of b.props b.pool 0 size_cells_key
 
       name : (t : Bool) → has spoken (cond t 0 9) ≡ false
       name true = refl
       name false = refl
 
-      address : (r : RootCells) → (address_fault r ≡ 0) ⊎ (address_fault r ≡ 36)
-      address (Are c) = inl refl
-      address Broken = inr refl
+      address : (r : Option Cells) → (address_fault r ≡ 0) ⊎ (address_fault r ≡ 36)
+      address (Some c) = inl refl
+      address None = inr refl
 
       size : (t : Bool) → (◌≡◌ {A = ℕ} (cond t 0 37) 0) ⊎ (◌≡◌ {A = ℕ} (cond t 0 37) 37)
       size true = inl refl
@@ -83,25 +81,25 @@ module _ (b : Board) where
       (reg_in width (value_in b.pool cells (lookup b.props b.pool i reg_key)))
     where
       go :
-          (seen kind : Bool) (v : Value) →
+          (seen kind : Bool) (v : Option ℕ) →
           Says i
           (unless_seen 13 seen
           (cond kind (number_or 12 (lookup b.props b.pool i reg_key) no_property v)
           (cpu_reading 11 (record_of (lookup b.props b.pool i device_type_key)) 0)))
       go seen false v ne = second_found b i Concerns.device_type
-      go seen true Invalid ne = second_found b i Concerns.reg
-      go true true (Number m) ne = unspoken b i refl refl
-      go false true (Number m) ne = absurd (ne refl)
+      go seen true None ne = second_found b i Concerns.reg
+      go true true (Some m) ne = unspoken b i refl refl
+      go false true (Some m) ne = absurd (ne refl)
   reading_second Phandles i seen = go seen (phandle_in (cell_in b.pool (lookup b.props b.pool i phandle_key)))
     where
       go :
-          (seen : Bool) (v : Value) →
+          (seen : Bool) (v : Option ℕ) →
           Says i
           (unless_seen 17 seen
           (number_or 17 (lookup b.props b.pool i phandle_key) (record_of (lookup b.props b.pool i phandle_key)) v))
-      go seen Invalid ne = second_found b i Concerns.phandle
-      go true (Number h) ne = second_found b i Concerns.phandle
-      go false (Number h) ne = absurd (ne refl)
+      go seen None ne = second_found b i Concerns.phandle
+      go true (Some h) ne = second_found b i Concerns.phandle
+      go false (Some h) ne = absurd (ne refl)
 
   -- and of the first of a list of them
   record_second : (w : CpuNumbers) (records : List ℕ) → HasSecond b (first_record (reading_of w b.props b.pool) (repeat_rule w) records)

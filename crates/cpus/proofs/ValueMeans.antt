@@ -1,5 +1,6 @@
 -- SPDX-License-Identifier: BSD-2-Clause OR GPL-2.0-or-later
 -- What the tests of a property's value say, and its value as a number of cells. Assumes nothing.
+use Rattle.std.specs.Prelude.{None, Option, Some}
 use mathlib.Core.Path.{◌≡◌, refl, sym, ap, ◌∙◌}
 use mathlib.Core.Bool.{Bool, true, false, cond}
 use mathlib.Core.Logic.{⊎_elim}
@@ -19,8 +20,6 @@ use Rattle.wellformed.proofs.WellFormedLaws.{wf_unique, wf_value_unique}
 use Rattle.tables.proofs.CellLaws.{cell_bytes_apart}
 use Rattle.cpus.specs.declared.Cells.{Cells}
 use Rattle.cpus.specs.declared.Cells.TheVariants.{One}
-use Rattle.cpus.specs.declared.Value.{Value}
-use Rattle.cpus.specs.declared.Value.TheVariants.{Number, Invalid}
 use Rattle.cpus.specs.answers.Cell.{size_of, value_sized, cells_at, value_in, cell_of, is_number}
 use Rattle.cpus.proofs.PairMeans.{limit, value_bytes, cells_lt, cells_bytes}
 
@@ -59,9 +58,9 @@ module _ {b : Board} (well : WellFormed b) {i : ℕ} {key : List ℕ} where
       (sized_test b.pool len (found_at b.props k)).1 (same, omega arith)
 
 -- what a property's value is as a number of so many cells: that number, or not
-pub data ValueSays (b : Board) (c : Cells) (i : ℕ) (key : List ℕ) : Value → Type 0 where
-  number : {n : ℕ} → HasValue b i key (value_bytes c n) → n < limit c → ValueSays b c i key (Number n)
-  none : ((v : List ℕ) → HasValue b i key v → length v ≡ size_of c → ⊥) → ValueSays b c i key Invalid
+pub data ValueSays (b : Board) (c : Cells) (i : ℕ) (key : List ℕ) : Option ℕ → Type 0 where
+  number : {n : ℕ} → HasValue b i key (value_bytes c n) → n < limit c → ValueSays b c i key (Some n)
+  none : ((v : List ℕ) → HasValue b i key v → length v ≡ size_of c → ⊥) → ValueSays b c i key None
 
 module _ {b : Board} (sized : WordSized b) (well : WellFormed b) (i : ℕ) (key : List ℕ) where
   pub value_says : (c : Cells) → ValueSays b c i key (value_in b.pool c (lookup b.props b.pool i key))
@@ -76,7 +75,7 @@ module _ {b : Board} (sized : WordSized b) (well : WellFormed b) (i : ℕ) (key 
           Property b i key k →
           (t : Bool) →
           value_sized b.pool (size_of c) (found_at b.props k) ≡ t →
-          ValueSays b c i key (cond t (Number (cells_at b.pool c (value_offset b.props k))) Invalid)
+          ValueSays b c i key (cond t (Some (cells_at b.pool c (value_offset b.props k))) None)
       at k p true e =
           let s = (sized_test b.pool (size_of c) (found_at b.props k)).0 e in
           ValueSays.number {n = cells_at b.pool c (value_offset b.props k)}
@@ -94,24 +93,24 @@ module _ {b : Board} (sized : WordSized b) (well : WellFormed b) (i : ℕ) (key 
   cell_says = value_says One
 
   module _ {w : ℕ} where
-    pub cell_test : cell_of b.props b.pool i key ≡ Number w → HasValue b i key (cell_bytes w) × (w < 2 ^ 32)
+    pub cell_test : cell_of b.props b.pool i key ≡ Some w → HasValue b i key (cell_bytes w) × (w < 2 ^ 32)
     cell_test = go cell_says
       where
-        go : {c : Value} → ValueSays b One i key c → c ≡ Number w → HasValue b i key (cell_bytes w) × (w < 2 ^ 32)
+        go : {c : Option ℕ} → ValueSays b One i key c → c ≡ Some w → HasValue b i key (cell_bytes w) × (w < 2 ^ 32)
         go (ValueSays.number {n = x} h lt) e = let q : x ≡ w = cc in (rw q at h, omega arith)
         go (ValueSays.none n) e = let z : ◌≡◌ {A = ℕ} 0 1 = cc in absurd (omega arith)
 
-    pub test_cell : HasValue b i key (cell_bytes w) → w < 2 ^ 32 → cell_of b.props b.pool i key ≡ Number w
+    pub test_cell : HasValue b i key (cell_bytes w) → w < 2 ^ 32 → cell_of b.props b.pool i key ≡ Some w
     test_cell h lt = go cell_says
       where
-        go : {c : Value} → ValueSays b One i key c → c ≡ Number w
-        go (ValueSays.number {n = x} g m) = ap Number (cell_bytes_apart x w m lt (value_unique well g h))
+        go : {c : Option ℕ} → ValueSays b One i key c → c ≡ Some w
+        go (ValueSays.number {n = x} g m) = ap Some (cell_bytes_apart x w m lt (value_unique well g h))
         go (ValueSays.none n) = absurd (n (cell_bytes w) h refl)
 
   -- the test of a cell is that of its bytes
   pub number_test : (w : ℕ) → w < 2 ^ 32 → Decides (is_number (cell_of b.props b.pool i key) w) (HasValue b i key (cell_bytes w))
   number_test w lt = go cell_says
     where
-      go : {c : Value} → ValueSays b One i key c → Decides (is_number c w) (HasValue b i key (cell_bytes w))
+      go : {c : Option ℕ} → ValueSays b One i key c → Decides (is_number c w) (HasValue b i key (cell_bytes w))
       go (ValueSays.number {n = x} h m) = decides_as (eq_decides x w) (λ e. rw e at h) (λ g. cell_bytes_apart x w m lt (value_unique well h g))
       go (ValueSays.none n) = (λ e. true_false e refl, λ g. absurd (n (cell_bytes w) g refl))

@@ -3,3 +3,4 @@
 pub mod Cell
 pub mod Check
 pub mod Numbers
+pub mod Told

@@ -8,18 +8,11 @@ mod property;
 mod read;
 mod root;
 
-use laws::Fault;
+use laws::Refusal;
 pub use node::is_cpu;
 pub use numbers::read_numbers;
 pub use property::cell_in;
 pub use root::{count_fault, list_cpus, read_root};
-
-// A property's value as a number, or not.
-#[derive(Clone, Copy)]
-pub enum Value {
-    Number(u64),
-    Invalid,
-}
 
 // A value of one cell, or of two.
 #[derive(Clone, Copy)]
@@ -28,17 +21,10 @@ pub enum Cells {
     Two,
 }
 
-// What `#address-cells` gives a board: the cells of its `reg`s, or Broken where rule 36 is broken.
-#[derive(Clone, Copy)]
-enum RootCells {
-    Are(Cells),
-    Broken,
-}
-
-// What is read of record 0: the first of rules 9, 36 and 37 that is broken, and the cells of the board's `reg`s.
+// What is read of record 0: whether it keeps rules 9, 36 and 37, and the cells of the board's `reg`s.
 #[derive(Clone, Copy)]
 pub struct RootReading {
-    pub fault: Fault,
+    pub checked: Result<(), Refusal>,
     pub cells: Cells,
 }
 
@@ -49,10 +35,9 @@ pub enum CpuNumbers {
     Phandles,
 }
 
-// What a cpu record breaks, 0 where nothing, the second place of what is told of it, and its number.
+// The number of a cpu record, and the property that is told of where an earlier record has the number, too.
 #[derive(Clone, Copy)]
-pub struct CpuReading {
-    pub number: u32,
-    pub second: usize,
+pub struct CpuNumber {
     pub value: u64,
+    pub property: Option<usize>,
 }

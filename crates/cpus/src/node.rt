@@ -3,7 +3,7 @@
 ghost use Rattle.std.specs.Prelude.{◌≡◌};
 ghost use Rattle.cpus.specs.answers.Check.{is_cpu_name, is_cpu};
 
-use tables::{binding, cell_at, is_child, node_word, range_is};
+use tables::{Tables, binding, cell_at, is_child, node_word, range_is};
 
 // Whether a name is `cpu` or begins `cpu@`.
 fn is_cpu_name(pool: &[u8], offset: usize, len: usize) -> bool
@@ -16,8 +16,8 @@ fn is_cpu_name(pool: &[u8], offset: usize, len: usize) -> bool
 }
 
 // Whether record i is a cpu record.
-pub fn is_cpu(nodes: &[u32], pool: &[u8], i: usize) -> bool
-    ensures { result ≡ is_cpu nodes.now pool.now i }
+pub fn is_cpu(tables: &Tables, i: usize) -> bool
+    ensures { result ≡ is_cpu tables.now.nodes.now tables.now.pool.now i }
 {
     if is_child(nodes, 0, i) {
         return is_cpu_name(pool, node_word(nodes, i, 1), node_word(nodes, i, 2));

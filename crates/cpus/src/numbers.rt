@@ -1,13 +1,15 @@
 // SPDX-License-Identifier: BSD-2-Clause OR GPL-2.0-or-later
 // One pass over a list of cpu records that gathers a number of each: rules 11 to 13, or rule 17.
 ghost use Rattle.std.specs.Prelude.{◌≡◌, length, take};
+ghost use Rattle.laws.specs.answers.Told.{told_in};
 ghost use Rattle.laws.specs.answers.Search.{is_among};
 ghost use Rattle.cpus.specs.answers.Numbers.{reading_at, repeat_rule, unless_seen, first_record, numbers_over};
 
 use crate::read::read_record;
-use crate::{CpuNumbers, CpuReading};
-use laws::{CLEAR, Fault, is_among, rules};
+use crate::{CpuNumber, CpuNumbers};
+use laws::{Refusal, Rule, is_among};
 use property_index::INDEX_WORDS;
+use tables::Tables;
 
 // The rule that a repeated number breaks.
 fn repeat_rule(wanted: CpuNumbers) -> u32
@@ -48,16 +50,15 @@ fn next_reading(
 // The numbers of cpu records, as many as there is room for, up to the first that breaks a rule.
 pub fn read_numbers(
     wanted: CpuNumbers,
-    props: &[u32],
-    pool: &[u8],
+    tables: &Tables,
     index: &[u16; INDEX_WORDS],
     records: &[u16],
     values: &mut [u64],
-) -> Fault
-    ensures fault { let read = reading_at wanted props.now pool.now index.now in
+) -> Result<(), Refusal>
+    ensures fault { let read = reading_at wanted tables.now.props.now tables.now.pool.now index.now in
         let cut = take (length values.old) records.now in
-        result ≡ first_record read (repeat_rule wanted) cut }
-    ensures values { let read = reading_at wanted props.now pool.now index.now in
+        told_in result ≡ first_record read (repeat_rule wanted) cut }
+    ensures values { let read = reading_at wanted tables.now.props.now tables.now.pool.now index.now in
         let cut = take (length values.old) records.now in
         values.new ≡ numbers_over read (repeat_rule wanted) cut values.old }
 {

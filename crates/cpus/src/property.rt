@@ -3,8 +3,8 @@
 ghost use Rattle.std.specs.Prelude.{◌≡◌, ◌+◌, ◌≤◌, length};
 ghost use Rattle.cpus.specs.answers.Cell.{size_of, value_sized, cells_at, value_in, cell_in, is_number};
 
-use crate::{Cells, Value};
-use tables::{Found, Lookup, cell_at, is_inside};
+use crate::Cells;
+use tables::{Found, cell_at, is_inside};
 
 // The bytes of one cell, or of two.
 fn size_of(cells: Cells) -> usize
@@ -40,7 +40,7 @@ fn cells_at(pool: &[u8], cells: Cells, at: usize) -> u64
 }
 
 // The number that is the value of a property, if it was found and has so many cells.
-pub fn value_in(pool: &[u8], cells: Cells, found: Lookup) -> Value
+pub fn value_in(pool: &[u8], cells: Cells, found: Option<Found>) -> Option<u64>
     ensures { result ≡ value_in pool.now cells found }
 {
     let Lookup::At(property) = found else {
@@ -53,7 +53,7 @@ pub fn value_in(pool: &[u8], cells: Cells, found: Lookup) -> Value
 }
 
 // The cell that is the value of a property, if it was found and has four bytes.
-pub fn cell_in(pool: &[u8], found: Lookup) -> Value
+pub fn cell_in(pool: &[u8], found: Option<Found>) -> Option<u64>
     ensures { result ≡ cell_in pool.now found }
 {
     value_in(pool, Cells::One, found)

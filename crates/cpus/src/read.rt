@@ -1,16 +1,16 @@
 // SPDX-License-Identifier: BSD-2-Clause OR GPL-2.0-or-later
 // What is read of one cpu record: rules 11, 12 and 17.
-ghost use Rattle.std.specs.Prelude.{◌≡◌};
+ghost use Rattle.std.specs.Prelude.{◌≡◌, IfErr};
+ghost use Rattle.cpus.specs.answers.Told.{reading_told};
 ghost use Rattle.cpus.specs.answers.Cell.{is_reg, reg_in, phandle_in};
 ghost use Rattle.cpus.specs.answers.Numbers.{number_or, reading_at};
 
 use crate::property::{cell_in, is_number, value_in};
-use crate::{CpuNumbers, CpuReading, Value};
+use crate::{CpuNumber, CpuNumbers};
 use affinity::is_affine;
-use laws::limits::NO_PROPERTY;
-use laws::rules;
+use laws::{Refusal, Rule};
 use property_index::{INDEX_WORDS, Key, find_indexed};
-use tables::{Lookup, binding, boards, record_of};
+use tables::{Found, Tables, binding, boards, record_of};
 
 // Whether a number may be a `reg` on a board of a width: a hart id always, an MPIDR with affinity bits alone.
 fn is_reg(width: u32, n: u64) -> bool
@@ -23,7 +23,7 @@ fn is_reg(width: u32, n: u64) -> bool
 }
 
 // A value that may be a `reg`.
-fn reg_in(width: u32, value: Value) -> Value
+fn reg_in(width: u32, value: Option<u64>) -> Option<u64>
     ensures { result ≡ reg_in width value }
 {
     let Value::Number(n) = value else {
@@ -36,7 +36,7 @@ fn reg_in(width: u32, value: Value) -> Value
 }
 
 // A phandle: neither 0 nor 0xFFFFFFFF.
-fn phandle_in(value: Value) -> Value
+fn phandle_in(value: Option<u64>) -> Option<u64>
     ensures { result ≡ phandle_in value }
 {
     let Value::Number(h) = value else {
@@ -52,7 +52,7 @@ fn phandle_in(value: Value) -> Value
 }
 
 // A value's number, and the second place of its repeat; or the rule that is broken where it is not there, told of a property.
-fn number_or(rule: u32, found: Lookup, repeated: usize, value: Value) -> CpuReading
+fn number_or(rule: u32, found: Option<Found>, repeated: usize, value: Option<u64>) -> CpuReading
     ensures { result ≡ number_or rule found repeated value }
 {
     match value {
@@ -72,12 +72,12 @@ fn number_or(rule: u32, found: Lookup, repeated: usize, value: Value) -> CpuRead
 // What a cpu record alone breaks, 0 where nothing, the second place of what is told of it, and its number.
 pub fn read_record(
     wanted: CpuNumbers,
-    props: &[u32],
-    pool: &[u8],
+    tables: &Tables,
     index: &[u16; INDEX_WORDS],
     i: usize,
-) -> CpuReading
-    ensures { result ≡ reading_at wanted props.now pool.now index.now i }
+) -> Result<CpuNumber, Refusal>
+    ensures reading { reading_told result ≡ reading_at wanted tables.now.props.now tables.now.pool.now index.now i }
+    ensures place { IfErr result (λ refusal. refusal.place ≡ i) }
 {
     let CpuNumbers::Regs { cells, width } = wanted else {
         let found = find_indexed(props, index, i, Key::Phandle);

@@ -1,20 +1,22 @@
 // SPDX-License-Identifier: BSD-2-Clause OR GPL-2.0-or-later
 // Rules 9, 10, 36 and 37: the root record and the number of cpu records.
 ghost use Rattle.std.specs.Prelude.{◌≡◌, min, set};
+ghost use Rattle.laws.specs.answers.Told.{number_in, told_in};
+ghost use Rattle.cpus.specs.answers.Told.{root_told};
 ghost use Rattle.laws.specs.answers.Search.{count_below, list_below};
 ghost use Rattle.laws.specs.answers.Listed.{laid_over};
-ghost use Rattle.tables.specs.facts.Board.{board, node_count};
+ghost use Rattle.tables.specs.facts.Board.{board_of, node_count};
 ghost use Rattle.tables.specs.answers.Lookup.{record_of};
 ghost use Rattle.laws.specs.facts.Limits.{max_nodes};
 ghost use Rattle.cpus.specs.answers.Check.{is_cpu, cells_for, cells_of, root_reading, count_fault};
 
 use crate::node::is_cpu;
 use crate::property::{cell_in, is_number};
-use crate::{Cells, RootCells, RootReading, Value};
+use crate::{Cells, RootReading};
 use laws::limits::{MAX_CPUS, MAX_NODES};
-use laws::{CLEAR, Fault, at_most, rules};
+use laws::{Refusal, Rule};
 use lookup::find_property;
-use tables::{Lookup, boards, name_is, record_of};
+use tables::{Found, Tables, boards, name_is, record_of};
 
 // What `#address-cells` gives a board of a width: one cell, or on 64-bit ARM two.
 fn cells_for(width: u32, value: Value) -> RootCells
@@ -57,8 +59,8 @@ fn told_of(number: u32, property: Lookup) -> Fault
 }
 
 // Reads record 0: rules 9, 36 and 37, and the cells of the board's `reg`s.
-pub fn read_root(width: u32, nodes: &[u32], props: &[u32], pool: &[u8]) -> RootReading
-    ensures { result ≡ root_reading (board width nodes.now props.now pool.now) }
+pub fn read_root(width: u32, tables: &Tables) -> RootReading
+    ensures { root_told result ≡ root_reading (board_of width tables.now) }
 {
     let address = find_property(props, pool, 0, b"#address-cells");
     let allowed = cells_for(width, cell_in(pool, address));
@@ -92,11 +94,11 @@ fn put_record(records: &mut [u16], k: usize, i: u16)
 }
 
 // Lists the cpu records among the first 1,024 records, as many as there is room for, and counts them.
-pub fn list_cpus(nodes: &[u32], pool: &[u8], records: &mut [u16; MAX_CPUS]) -> usize
-    ensures count { let table = nodes.now in
-        result ≡ count_below (is_cpu table pool.now) (min (node_count table) max_nodes) }
-    ensures records { let table = nodes.now in
-        records.new ≡ laid_over (list_below (is_cpu table pool.now) (min (node_count table) max_nodes)) records.old }
+pub fn list_cpus(tables: &Tables, records: &mut [u16; MAX_CPUS]) -> usize
+    ensures count { let t = tables.now in
+        result ≡ count_below (is_cpu t.nodes.now t.pool.now) (min (node_count t.nodes.now) max_nodes) }
+    ensures records { let t = tables.now in
+        records.new ≡ laid_over (list_below (is_cpu t.nodes.now t.pool.now) (min (node_count t.nodes.now) max_nodes)) records.old }
 {
     let n = at_most(nodes.len() / 3, MAX_NODES);
     let mut count: usize = 0;
@@ -114,8 +116,8 @@ pub fn list_cpus(nodes: &[u32], pool: &[u8], records: &mut [u16; MAX_CPUS]) -> u
 }
 
 // 10 where there are no cpu records or too many, or 0.
-pub fn count_fault(count: usize) -> u32
-    ensures { result ≡ count_fault count }
+pub fn count_fault(count: usize) -> Result<(), Rule>
+    ensures { number_in result ≡ count_fault count }
 {
     if count == 0 {
         return rules::CPU_COUNT;

@@ -7,7 +7,7 @@ use native.Mathlib.Nat.{le_trans}
 use native.Mathlib.Omega.{arith}
 use lib.Dec.{eqb}
 use borrow.Author.Tests.{eqb-true}
-use Rattle.laws.specs.declared.Fault.{Fault}
+use Rattle.laws.specs.facts.Told.{Fault}
 use Rattle.laws.specs.answers.Fault.{told, or_else, first_fault}
 use Rattle.laws.proofs.FaultLaws.{place_le}
 use Rattle.laws.proofs.OrElseLaws.{or_clear}
@@ -27,7 +27,7 @@ use Rattle.leaves.proofs.TreeTells.{leaves_place}
 use Rattle.rows.specs.answers.Slots.{board_hash}
 use Rattle.demands.specs.facts.Words.{Words}
 use Rattle.demands.specs.answers.Survey.{survey_fault}
-use Rattle.demands.specs.declared.BoardAnswer.{BoardAnswer}
+use Rattle.demands.specs.facts.Told.{BoardAnswer}
 use Rattle.demands.specs.answers.Answer.{board_fault, room_fault, answer_by, answer_of}
 use Rattle.demands.proofs.LayerLaws.{board_stages, few_cpus}
 use Rattle.demands.specs.answers.Slots.{slots_fault, slots_answer}

@@ -34,7 +34,7 @@ use Rattle.rows.proofs.FitMeans.{rows_fit}
 use Rattle.rows.proofs.FitUnique.{fits_unique}
 use Rattle.rows.proofs.SlotMeans.{slots_distinct_rows, slots_bounded, slots_gaps}
 use Rattle.rows.proofs.WrittenLaws.{written_front, written_rest, written_length, written_row}
-use Rattle.demands.specs.declared.BoardAnswer.{BoardAnswer}
+use Rattle.demands.specs.facts.Told.{BoardAnswer}
 use Rattle.demands.specs.facts.Rules.{Breaks, Told, MapBroken, Room}
 use Rattle.demands.specs.answers.Answer.{board_fault, answer_of, rows_after}
 use Rattle.demands.specs.facts.Reading.{Refused, Accepted, Unchanged, Demands}

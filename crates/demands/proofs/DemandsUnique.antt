@@ -15,7 +15,7 @@ use Rattle.tables.specs.facts.Board.{Board}
 use Rattle.wellformed.specs.facts.Order.{stage}
 use Rattle.wellformed.specs.facts.Rules.{WellFormed}
 use Rattle.rows.proofs.FitUnique.{board_hash_unique}
-use Rattle.demands.specs.declared.BoardAnswer.{BoardAnswer}
+use Rattle.demands.specs.facts.Told.{BoardAnswer}
 use Rattle.demands.specs.facts.Rules.{Breaks}
 use Rattle.demands.specs.facts.Reading.{Refused, Accepted, Demands}
 

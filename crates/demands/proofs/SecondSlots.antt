@@ -10,7 +10,7 @@ use lib.Dec.{eqb, ltb}
 use borrow.Author.Tests.{eqb-true, eqb-false}
 use Rattle.laws.specs.facts.First.{has}
 use Rattle.laws.specs.facts.Limits.{max_table_bits, no_property}
-use Rattle.laws.specs.declared.Fault.{Fault}
+use Rattle.laws.specs.facts.Told.{Fault}
 use Rattle.laws.specs.answers.Fault.{told}
 use Rattle.laws.proofs.FaultLaws.{or_first, or_second}
 use Rattle.laws.proofs.OrElseLaws.{told_number}

@@ -7,7 +7,7 @@ use Prim.Native.Nat.{ℕ, ◌*◌, ◌^◌, ◌≤◌}
 use native.Mathlib.Omega.{arith}
 use lib.ListN.{length, drop}
 use borrow.Author.Tests.{eq-eqb, ne_eqb}
-use Rattle.laws.specs.declared.Fault.{Fault}
+use Rattle.laws.specs.facts.Told.{Fault}
 use Rattle.laws.specs.answers.Fault.{told}
 use Rattle.laws.proofs.SearchLaws.{lt_or_le}
 use Rattle.laws.proofs.OrElseLaws.{told_number}
@@ -24,7 +24,7 @@ use Rattle.rows.specs.facts.BoardHash.{BoardHash}
 use Rattle.rows.specs.answers.Slots.{board_hash}
 use Rattle.rows.proofs.FitUnique.{board_hash_unique}
 use Rattle.rows.specs.answers.Write.{source_of}
-use Rattle.demands.specs.declared.BoardAnswer.{BoardAnswer}
+use Rattle.demands.specs.facts.Told.{BoardAnswer}
 use Rattle.demands.specs.facts.Rules.{Breaks}
 use Rattle.demands.specs.facts.Reading.{Refused, Accepted, Demands}
 use Rattle.demands.specs.facts.Slots.{SlotTableBroken, SlotBreaks, SlotTableDemands}

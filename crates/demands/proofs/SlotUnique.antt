@@ -11,7 +11,7 @@ use borrow.Author.Tests.{eqb-true, eqb-false}
 use Rattle.slot_table.proofs.UniqueLaws.{slot_table_unique}
 use Rattle.laws.proofs.DecideLaws.{decided, eq_decides}
 use Rattle.tables.specs.facts.Board.{Board, riscv, HasMpidrs}
-use Rattle.demands.specs.declared.BoardAnswer.{BoardAnswer}
+use Rattle.demands.specs.facts.Told.{BoardAnswer}
 use Rattle.demands.specs.facts.Slots.{SlotTableBroken, SlotBreaks, SlotTableDemands}
 use Rattle.demands.proofs.DemandsUnique.{both_refuse, demands_unique}
 

@@ -3,3 +3,4 @@
 pub mod Answer
 pub mod Slots
 pub mod Survey
+pub mod Told

@@ -4,3 +4,4 @@ pub mod Reading
 pub mod Slots
 pub mod Rules
 pub mod Words
+pub mod Told

@@ -1,5 +1,6 @@
 -- SPDX-License-Identifier: BSD-2-Clause OR GPL-2.0-or-later
 -- The claim of the reader of a blob, of its definitions. Assumes nothing.
+use Rattle.std.specs.Prelude.{Err, Ok, Result}
 use mathlib.Core.Path.{◌≡◌, refl, sym, ap, ◌∙◌, subst}
 use mathlib.Core.Bool.{false, cond}
 use mathlib.Core.Logic.{inl, inr}
@@ -18,15 +19,13 @@ use Rattle.tokens.specs.facts.Token.{Blocks}
 use Rattle.header.specs.facts.Header.{structure_at, structure_size, blocks_of}
 use Rattle.header.specs.answers.Fault.{header_fault, blocks_fault}
 use Rattle.stream.specs.declared.Walk.{Walk}
-use Rattle.stream.specs.declared.Surveyed.{Surveyed}
-use Rattle.stream.specs.declared.Surveyed.TheVariants.{Whole, Broken}
 use Rattle.stream.specs.facts.Tree.{Nodes, tokens_of, node_words, prop_words, CpusAmong}
 use Rattle.stream.specs.facts.Stream.{Holds, BrokenAt}
 use Rattle.stream.proofs.TallyLaws.{tally_of, tally, no_tally}
 use Rattle.stream.proofs.UniqueLaws.{holds_unique, broken_unique, holds_sound}
 use Rattle.stream.proofs.TellLaws.{Tells, walk_all}
 use Rattle.stream.proofs.AmongLaws.{among_unique}
-use Rattle.flat.specs.declared.BlobAnswer.{BlobAnswer}
+use Rattle.flat.specs.facts.Told.{BlobAnswer}
 use Rattle.flat.specs.facts.Rules.{children_of, CpusNodes, Cpus, BlobRule, BlobTold}
 use Rattle.flat.specs.facts.Reading.{BlobReading}
 use Rattle.flat.specs.answers.Answer.{walk_in, blob_refused, count_answer, walk_answer, blob_answer, filled_in, filled_over, nodes_after, props_after}
@@ -132,7 +131,7 @@ module _ (blob nodes props : List ℕ) where
           none (Kind.count _ _) le lt = omega arith
           none (Kind.space _ _) le lt = omega arith
 
-      module _ {w : Walk} {tree : Nodes} (is_walk : walk_in b ≡ Whole w) (holds : Holds b tree)
+      module _ {w : Walk} {tree : Nodes} (is_walk : walk_in b ≡ Ok w) (holds : Holds b tree)
           (counts : tally_of w ≡ tally b.structure (tokens_of tree) no_tally) where
         -- .. then 34, ..
         claim_count : {found : List Nodes} → CpusNodes blob found → (length found ≡ 1 → ⊥) → Claimed (blob_refused 34 0)
@@ -241,9 +240,9 @@ module _ (blob nodes props : List ℕ) where
           go (walk_in b) refl
           (walk_all b blocks.offset (omega (arith, block_ends, blocks.offset, blocks.size)) (omega (arith, block_ends)))
         where
-          go : (r : Surveyed) → walk_in b ≡ r → Tells b r → Claimed (walk_answer node_room prop_room r)
-          go (Broken p) e broken = claim_broken broken
-          go (Whole w) e h = claim_whole e h.1 h.2
+          go : (r : Result Walk ℕ) → walk_in b ≡ r → Tells b r → Claimed (walk_answer node_room prop_room r)
+          go (Err p) e broken = claim_broken broken
+          go (Ok w) e h = claim_whole e h.1 h.2
 
   claim_blob : Claimed (blob_answer blob node_room prop_room)
   unfolding blob_answer

@@ -2,3 +2,4 @@
 -- What public contracts equate their results with.
 pub mod Fill
 pub mod Answer
+pub mod Told

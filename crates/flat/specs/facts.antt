@@ -3,3 +3,4 @@
 pub mod Rules
 pub mod Tables
 pub mod Reading
+pub mod Told

@@ -2,11 +2,9 @@
 // A flattened devicetree: the rules of a blob, what is answered of it, and what holds of that. The code is in crate `blob`.
 #![tactic(auto)]
 
-// What is answered of a blob: number 0 and place 0, with the counts of the records in both tables; or a refusal, in which these are 0.
+// What is answered of a blob that is read: the counts of the records in both tables.
 #[derive(Clone, Copy)]
-pub struct BlobAnswer {
-    pub number: u32,
-    pub place: u32,
+pub struct BlobCounts {
     pub nodes: u32,
     pub props: u32,
 }

@@ -1,10 +1,11 @@
 // SPDX-License-Identifier: BSD-2-Clause OR GPL-2.0-or-later
 // Rule 32, and where the blocks stand. A sum of two cells is formed as an index, so it does not wrap.
 ghost use Rattle.std.specs.Prelude.{◌≡◌};
+ghost use Rattle.laws.specs.answers.Told.{number_in};
 ghost use Rattle.header.specs.answers.Fault.{block_places, blocks_fault};
 
 use crate::BlockPlaces;
-use laws::rules;
+use laws::Rule;
 use tables::{cell_at, wide};
 
 // Where the header says that its blocks stand.
@@ -20,8 +21,8 @@ pub fn block_places(blob: &[u8]) -> BlockPlaces
 }
 
 // 32 where a block leaves the total size or the structure block is not aligned, else 0.
-pub fn blocks_fault(blob: &[u8]) -> u32
-    ensures { result ≡ blocks_fault blob.now }
+pub fn blocks_fault(blob: &[u8]) -> Result<(), Rule>
+    ensures { number_in result ≡ blocks_fault blob.now }
 {
     let total = wide(cell_at(blob, 4));
     let found = block_places(blob);

@@ -1,10 +1,11 @@
 // SPDX-License-Identifier: BSD-2-Clause OR GPL-2.0-or-later
 // Rule 31: length, magic, total size and versions.
 ghost use Rattle.std.specs.Prelude.{◌≡◌};
+ghost use Rattle.laws.specs.answers.Told.{number_in};
 ghost use Rattle.header.specs.answers.Fault.{version_fault, header_fault};
 
 use laws::limits::MAX_BLOB;
-use laws::rules;
+use laws::Rule;
 use tables::{cell_at, wide};
 
 const HEADER_BYTES: usize = 40;
@@ -14,8 +15,8 @@ const MAGIC: u32 = 0xd00dfeed;
 const FORMAT_VERSION: u32 = 17;
 
 // Total size and versions.
-fn version_fault(blob: &[u8]) -> u32
-    ensures { result ≡ version_fault blob.now }
+fn version_fault(blob: &[u8]) -> Result<(), Rule>
+    ensures { number_in result ≡ version_fault blob.now }
 {
     let total = wide(cell_at(blob, 4));
     let version = cell_at(blob, 20);
@@ -36,8 +37,8 @@ fn version_fault(blob: &[u8]) -> u32
 }
 
 // 31 where the header is not that of a blob that can be read, else 0.
-pub fn header_fault(blob: &[u8]) -> u32
-    ensures { result ≡ header_fault blob.now }
+pub fn header_fault(blob: &[u8]) -> Result<(), Rule>
+    ensures { number_in result ≡ header_fault blob.now }
 {
     let magic = cell_at(blob, 0);
     if blob.len() < HEADER_BYTES {

@@ -5,7 +5,7 @@ use mathlib.Core.Bool.{Bool, true, false, cond}
 use Prim.Native.Nat.{ℕ, zero, suc}
 use lib.Dec.{eqb}
 use borrow.Author.Tests.{ne_eqb}
-use Rattle.laws.specs.declared.Fault.{Fault}
+use Rattle.laws.specs.facts.Told.{Fault}
 use Rattle.laws.specs.facts.Limits.{no_property}
 use Rattle.laws.specs.answers.Fault.{told, or_else, first_fault, with_second}
 use Rattle.laws.proofs.FirstLaws.{Tells}

@@ -5,3 +5,4 @@ pub mod Fault
 pub mod Listed
 pub mod Same
 pub mod Search
+pub mod Told

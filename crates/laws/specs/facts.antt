@@ -6,3 +6,4 @@ pub mod Listing
 pub mod Lowest
 pub mod Sum
 pub mod Limits
+pub mod Told

@@ -3,26 +3,9 @@
 // and a length cut to the room.
 #![tactic(auto)]
 
-mod cut;
 pub mod limits;
-pub mod rules;
+mod rules;
 mod search;
 
-pub use cut::at_most;
+pub use rules::{Refusal, Rule};
 pub use search::{is_among, place_in};
-
-// What a search for a broken rule tells: the rule's number, its place, and its second place, the record of the property that it
-// speaks of; 0, 0 and NO_PROPERTY where no rule is broken.
-#[derive(Clone, Copy)]
-pub struct Fault {
-    pub number: u32,
-    pub place: usize,
-    pub second: usize,
-}
-
-// No rule broken.
-pub const CLEAR: Fault = Fault {
-    number: 0,
-    place: 0,
-    second: limits::NO_PROPERTY,
-};

@@ -10,9 +10,9 @@ use Rattle.laws.specs.facts.Limits.{no_property}
 use Rattle.laws.specs.answers.Fault.{or_number}
 use Rattle.laws.proofs.FaultLaws.{or_number_zero, or_number_right}
 use Rattle.tables.specs.answers.Lookup.{record_of}
-use Rattle.topology.specs.declared.RecordShape.{RecordShape}
+use Rattle.topology.specs.facts.Told.{RecordShape}
 use Rattle.topology.specs.answers.Check.{record_shape}
-use Rattle.leaves.specs.declared.RecordCheck.{RecordCheck}
+use Rattle.leaves.specs.facts.Told.{RecordCheck}
 use Rattle.leaves.specs.answers.Check.{leaf_cpu, record_check}
 use Rattle.leaves.specs.answers.Scan.{Tree, check, repeat_fault, tree_fault}
 

@@ -13,7 +13,7 @@ use Rattle.wellformed.specs.facts.Rules.{WellFormed}
 use Rattle.wellformed.proofs.WellFormedLaws.{wf_depth}
 use Rattle.cpus.specs.facts.Rules.{SoundPhandles}
 use Rattle.cpus.specs.answers.Check.{cpu_list}
-use Rattle.leaves.specs.declared.RecordCheck.{RecordCheck}
+use Rattle.leaves.specs.facts.Told.{RecordCheck}
 use Rattle.cpumap.specs.facts.Map.{Map, InMap}
 use Rattle.cpumap.specs.answers.Path.{topology_name}
 use Rattle.topology.specs.answers.Check.{has_child, is_leaf_name}

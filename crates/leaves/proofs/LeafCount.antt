@@ -15,7 +15,7 @@ use Rattle.laws.proofs.FaultLaws.{below_clear, or_number_zero}
 use Rattle.laws.proofs.ListingLaws.{listed}
 use Rattle.laws.proofs.IndexLaws.{listing_below}
 use Rattle.laws.specs.facts.Limits.{max_cpus}
-use Rattle.leaves.specs.declared.RecordCheck.{RecordCheck}
+use Rattle.leaves.specs.facts.Told.{RecordCheck}
 use Rattle.leaves.specs.answers.Scan.{Tree, check, is_leaf, cpu_of, named_below, repeat_fault, tree_fault}
 use Rattle.leaves.proofs.CheckCases.{shape_of, named, Answers, Checked, checked}
 

@@ -1,5 +1,6 @@
 -- SPDX-License-Identifier: BSD-2-Clause OR GPL-2.0-or-later
 -- What a leaf's `cpu` says: the cpu record that it names. Assumes well-formed tables and phandles.
+use Rattle.std.specs.Prelude.{None, Option, Some}
 use mathlib.Core.Path.{◌≡◌, refl, sym, ◌∙◌}
 use mathlib.Core.Bool.{Bool}
 use mathlib.Core.Logic.{⊎_elim}
@@ -14,8 +15,6 @@ use Rattle.tables.specs.facts.Board.{Board, WordSized}
 use Rattle.tables.specs.facts.Property.{cell_bytes}
 use Rattle.wellformed.specs.facts.Rules.{WellFormed}
 use Rattle.tables.specs.facts.Binding.{cpu_key}
-use Rattle.cpus.specs.declared.Value.{Value}
-use Rattle.cpus.specs.declared.Value.TheVariants.{Number, Invalid}
 use Rattle.cpus.specs.facts.Node.{Phandle}
 use Rattle.cpus.specs.facts.Rules.{SoundPhandles}
 use Rattle.cpus.specs.answers.Cell.{cell_in, cell_of}
@@ -36,12 +35,12 @@ module _ {b : Board} (sized : WordSized b) (well : WellFormed b) (handles : Soun
   index_names i = go (cell_of b.props b.pool i cpu_key) refl
     where
       go :
-          (x : Value) →
+          (x : Option ℕ) →
           cell_of b.props b.pool i cpu_key ≡ x →
           index_of (phandle_list b) x < length (phandle_list b) →
           Names b i (cpu_at b (index_of (phandle_list b) x))
-      go Invalid e lt = absurd (omega arith)
-      go (Number w) e lt =
+      go None e lt = absurd (omega arith)
+      go (Some w) e lt =
           let test : ℕ → Bool = λ j. eqb (get_or (phandle_list b) j 0) w in
           let k = lowest test (length (phandle_list b)) in
           let same : get_or (phandle_list b) k 0 ≡ w = eqb-true _ _ (lowest_passes test (length (phandle_list b)) lt) in
@@ -70,7 +69,7 @@ module _ {b : Board} (sized : WordSized b) (well : WellFormed b) (handles : Soun
       of_c : Phandle b c h
       of_c = rw (cpu_index_lem well c n.is_cpu).1 at (phandle_at sized well handles k in_k)
 
-      cell_is : cell_in b.pool (cpu_property b.props b.pool i) ≡ Number h
+      cell_is : cell_in b.pool (cpu_property b.props b.pool i) ≡ Some h
       cell_is = test_cell sized well i cpu_key (rw (value_unique well n.phandle of_c.value) at n.cpu) of_c.word
 
       test : ℕ → Bool

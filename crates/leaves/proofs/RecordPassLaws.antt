@@ -20,7 +20,7 @@ use Rattle.laws.proofs.GatherLaws.{gathered_length, gathered_more}
 use Rattle.laws.proofs.OverLaws.{over_none, over_add, listed_yes, listed_no}
 use Rattle.tables.specs.facts.Board.{node_count}
 use Rattle.laws.specs.facts.Limits.{max_cpus}
-use Rattle.leaves.specs.declared.RecordCheck.{RecordCheck}
+use Rattle.leaves.specs.facts.Told.{RecordCheck}
 use Rattle.leaves.specs.answers.Scan.{Tree, check, is_leaf, cpu_of, named_below, tree_fault, leaf_list, passed}
 use Rattle.leaves.specs.steps.Pass.{is_marked, Marked, PassArrays, checked_fault, leaf_scan}
 use Rattle.leaves.proofs.LeafCount.{leaves_fit}

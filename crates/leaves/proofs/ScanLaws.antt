@@ -7,7 +7,7 @@ use Prim.Native.Nat.{ℕ, zero, suc, ◌*◌, ◌≤◌, min}
 use native.Mathlib.Omega.{arith}
 use lib.ListN.{length, get_or, take}
 use borrow.Author.Tests.{eq-eqb, ne_eqb}
-use Rattle.laws.specs.declared.Fault.{Fault}
+use Rattle.laws.specs.facts.Told.{Fault}
 use Rattle.laws.specs.answers.Fault.{clear, told, or_else, first_fault, with_second}
 use Rattle.laws.specs.answers.Listed.{laid_over, fault_of_member}
 use Rattle.laws.proofs.FaultLaws.{or_first, or_second, below_clear}
@@ -17,7 +17,7 @@ use Rattle.laws.proofs.GatherLaws.{first_same}
 use Rattle.laws.proofs.CutLaws.{cut_same}
 use Rattle.tables.specs.facts.Board.{node_count}
 use Rattle.laws.specs.facts.Limits.{max_nodes, max_cpus}
-use Rattle.leaves.specs.declared.TreeScan.{TreeScan}
+use Rattle.leaves.specs.facts.Told.{TreeScan}
 use Rattle.leaves.specs.answers.Check.{indexed_cpu}
 use Rattle.leaves.specs.answers.Scan.{Tree, tree, lent_tree, check, cpu_of, named_below, tree_fault}
 use Rattle.leaves.specs.answers.Scan.{record_fault, leaves_fault, leaf_list, scanned, tree_scan}

@@ -7,7 +7,7 @@ use Prim.Native.Nat.{ℕ, zero, suc}
 use native.Mathlib.Omega.{arith}
 use lib.ListN.{length, get_or}
 use Rattle.laws.specs.facts.First.{has}
-use Rattle.laws.specs.declared.Fault.{Fault}
+use Rattle.laws.specs.facts.Told.{Fault}
 use Rattle.laws.specs.answers.Fault.{first_fault, or_number}
 use Rattle.laws.specs.answers.Listed.{fault_of_member}
 use Rattle.laws.proofs.FaultLaws.{first_is}
@@ -15,7 +15,7 @@ use Rattle.tables.specs.facts.Board.{Board, node_count}
 use Rattle.tables.specs.facts.Second.{Concerns, Second}
 use Rattle.tables.proofs.SecondLaws.{spoken, HasSecond, second_found, first_unspoken, unspoken, told_second, else_second, with_second_lem}
 use Rattle.topology.proofs.ShapeNumberLaws.{Range, shape_range}
-use Rattle.leaves.specs.declared.RecordCheck.{RecordCheck}
+use Rattle.leaves.specs.facts.Told.{RecordCheck}
 use Rattle.leaves.specs.answers.Scan.{Tree, tree_at, check, is_leaf, cpu_of, named_below, tree_fault, record_fault, leaves_fault}
 use Rattle.leaves.proofs.CheckCases.{Checked, checked, answers_fault, check_fault}
 

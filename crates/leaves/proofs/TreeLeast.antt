@@ -18,7 +18,7 @@ use Rattle.cpus.specs.facts.Rules.{SoundCpus, SoundPhandles}
 use Rattle.cpumap.specs.facts.Map.{Map}
 use Rattle.cpumap.proofs.NameFacts.{root_nameless}
 use Rattle.topology.proofs.ShapeMeans.{leaf_shape, shape_told}
-use Rattle.leaves.specs.declared.RecordCheck.{RecordCheck}
+use Rattle.leaves.specs.facts.Told.{RecordCheck}
 use Rattle.leaves.specs.facts.Rules.{LeafRule}
 use Rattle.leaves.specs.answers.Scan.{Tree, tree_at, check, repeat_fault, tree_fault}
 use Rattle.leaves.proofs.RuleCases.{TreeRule, rule_leaf, leaf_staged, in_order, tree_inside}

@@ -2,3 +2,4 @@
 -- What public contracts equate their results with.
 pub mod Check
 pub mod Scan
+pub mod Told

@@ -2,3 +2,4 @@
 -- What has to be believed: each is a fact of the papers or a word that such facts use.
 pub mod Leaf
 pub mod Rules
+pub mod Told

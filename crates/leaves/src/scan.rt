@@ -1,16 +1,18 @@
 // SPDX-License-Identifier: BSD-2-Clause OR GPL-2.0-or-later
 // The leaves of the map: rules 18 to 26.
 ghost use Rattle.std.specs.Prelude.{◌≡◌, length};
+ghost use Rattle.laws.specs.answers.Told.{told_in};
+ghost use Rattle.leaves.specs.answers.Told.{tree_told};
 ghost use Rattle.laws.specs.answers.Fault.{first_fault};
 ghost use Rattle.laws.specs.answers.Listed.{fault_of_member};
-ghost use Rattle.leaves.specs.answers.Scan.{lent_tree, tree_scan, leaves_over, named_over};
+ghost use Rattle.leaves.specs.answers.Scan.{tree_in, tree_scan, leaves_over, named_over};
 ghost use Rattle.leaves.specs.steps.Pass.{unmarked_fault};
 
-use crate::TreeScan;
 use crate::pass::{is_marked, refuse, scan_records};
-use laws::limits::{MAX_CPUS, MAX_NODES, NO_PROPERTY};
-use laws::{CLEAR, Fault, at_most, rules};
+use laws::limits::{MAX_CPUS, MAX_NODES};
+use laws::{Refusal, Rule};
 use property_index::INDEX_WORDS;
+use tables::Tables;
 
 // The first of a list of cpu records that breaks rule 26: its index in the list is not marked.
 fn first_unmapped(records: &[u16], marks: &[u8]) -> Fault
@@ -34,21 +36,19 @@ fn first_unmapped(records: &[u16], marks: &[u8]) -> Fault
 // Checks rules 18 to 26, and lists the leaves, and for each the index of the cpu record that it names. It looks at the first 1,024 records and
 // at the first 256 phandles.
 pub fn read_tree(
-    nodes: &[u32],
-    props: &[u32],
-    pool: &[u8],
+    tables: &Tables,
     index: &[u16; INDEX_WORDS],
     map: usize,
     cpu_records: &[u16],
     phandles: &[u64],
     leaves: &mut [u16; MAX_CPUS],
     named: &mut [u16; MAX_CPUS],
-) -> TreeScan
-    ensures answer { let t = lent_tree nodes.now props.now pool.now index.now map phandles.now in
-        result ≡ tree_scan t cpu_records.now }
-    ensures leaves { let t = lent_tree nodes.now props.now pool.now index.now map phandles.now in
+) -> Result<usize, Refusal>
+    ensures answer { let t = tree_in tables.now index.now map phandles.now in
+        tree_told result ≡ tree_scan t cpu_records.now }
+    ensures leaves { let t = tree_in tables.now index.now map phandles.now in
         leaves.new ≡ leaves_over t leaves.old }
-    ensures named { let t = lent_tree nodes.now props.now pool.now index.now map phandles.now in
+    ensures named { let t = tree_in tables.now index.now map phandles.now in
         named.new ≡ named_over t named.old }
 {
     let words = at_most(nodes.len(), 3 * MAX_NODES);

@@ -17,14 +17,14 @@ use Rattle.wire.specs.facts.Bytes.{word_size, words_in}
 use Rattle.tables.specs.facts.Board.{board}
 use Rattle.header.specs.facts.Header.{blocks_of}
 use Rattle.stream.specs.facts.Tree.{node_words, prop_words}
-use Rattle.flat.specs.declared.BlobAnswer.{BlobAnswer}
+use Rattle.flat.specs.facts.Told.{BlobAnswer}
 use Rattle.flat.specs.facts.Rules.{BlobRule, BlobTold, blob_stages}
 use Rattle.flat.specs.facts.Reading.{BlobReading, BlobAccepted, AtFront}
 use Rattle.flat.specs.facts.Tables.{board_of}
 use Rattle.flat.specs.answers.Fill.{Filled}
 use Rattle.flat.specs.answers.Answer.{blob_answer, filled_in, nodes_after, props_after}
 use Rattle.flat.proofs.Claim.{room, counted}
-use Rattle.demands.specs.declared.BoardAnswer.{BoardAnswer}
+use Rattle.demands.specs.facts.Told.{BoardAnswer}
 use Rattle.demands.specs.facts.Words.{Words}
 use Rattle.demands.specs.facts.Reading.{Demands}
 use Rattle.demands.specs.answers.Answer.{refused_with, answer_of}

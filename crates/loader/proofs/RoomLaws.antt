@@ -8,7 +8,7 @@ use native.Mathlib.Omega.{arith}
 use lib.Dec.{eqb}
 use borrow.Author.Tests.{eqb-true, eqb-false, lt-ltb, le-ltb}
 use Rattle.laws.specs.facts.Limits.{max_cpus}
-use Rattle.laws.specs.declared.Fault.{Fault}
+use Rattle.laws.specs.facts.Told.{Fault}
 use Rattle.laws.specs.answers.Fault.{told, or_else}
 use Rattle.laws.proofs.FaultLaws.{or_first}
 use Rattle.laws.proofs.OrElseLaws.{or_clear}

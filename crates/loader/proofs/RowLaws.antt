@@ -11,7 +11,7 @@ use lib.ListN.{length, get_or, take, drop, length-append, length-drop, length-ta
 use lib.Seq.{drop_at, get_or-take}
 use borrow.Author.Tests.{eq-eqb, ne_eqb, eqb-true, eqb-false, lt-ltb, le-ltb}
 use Rattle.laws.specs.facts.Limits.{max_cpus}
-use Rattle.laws.specs.declared.Fault.{Fault}
+use Rattle.laws.specs.facts.Told.{Fault}
 use Rattle.laws.proofs.SearchLaws.{lt_or_le}
 use Rattle.layout.specs.facts.Row.{row_size}
 use Rattle.wire.specs.facts.Bytes.{word_size, in_bytes, words_in}
@@ -24,7 +24,7 @@ use Rattle.rows.specs.answers.Write.{Source, rows_below, written, source_of}
 use Rattle.rows.proofs.RowLaws.{rows_length}
 use Rattle.rows.proofs.SourceMeans.{leaf_count}
 use Rattle.rows.proofs.WrittenLaws.{written_front}
-use Rattle.demands.specs.declared.BoardAnswer.{BoardAnswer}
+use Rattle.demands.specs.facts.Told.{BoardAnswer}
 use Rattle.demands.specs.facts.Reading.{Demands}
 use Rattle.demands.specs.answers.Answer.{board_fault, rows_by, answer_of, rows_after}
 use Rattle.demands.proofs.AnswerLaws.{by_number}

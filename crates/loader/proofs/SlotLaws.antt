@@ -9,12 +9,12 @@ use lib.Dec.{eqb}
 use lib.ListN.{length}
 use borrow.Author.Tests.{eq-eqb, ne_eqb, eqb-true, eqb-false, lt-ltb}
 use Rattle.laws.specs.facts.Limits.{max_cpus}
-use Rattle.laws.specs.declared.Fault.{Fault}
+use Rattle.laws.specs.facts.Told.{Fault}
 use Rattle.laws.specs.answers.Fault.{first_fault}
 use Rattle.laws.specs.facts.First.{Before}
 use Rattle.wire.specs.facts.Bytes.{number_size, numbers_in}
 use Rattle.wire.proofs.ByteLaws.{numbers_length}
-use Rattle.affinity.specs.declared.ListSlot.{ListSlot}
+use Rattle.affinity.specs.facts.Told.{ListSlot}
 use Rattle.affinity.specs.facts.List.{list_stage, ListRule, SlotRule, SlotDemands}
 use Rattle.affinity.specs.answers.List.{first_outside, list_fault, slot_answer}
 use Rattle.affinity.proofs.ListLaws.{fault_within, slot_place_le}

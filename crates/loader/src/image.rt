@@ -7,13 +7,13 @@ ghost use Rattle.wire.specs.facts.Bytes.{word_size, words_in};
 ghost use Rattle.tables.specs.facts.Board.{board};
 ghost use Rattle.demands.specs.facts.Words.{Words};
 ghost use Rattle.demands.specs.facts.Reading.{Demands};
+ghost use Rattle.demands.specs.answers.Told.{board_told};
 ghost use Rattle.demands.specs.answers.Answer.{answer_of};
 ghost use Rattle.loader.specs.facts.Image.{ImageDemands};
 ghost use Rattle.loader.specs.answers.Image.{row_bytes, image_answer, image_rows};
 
-use demands::{BoardAnswer, refused};
-use laws::Fault;
-use laws::limits::NO_PROPERTY;
+use demands::BoardRows;
+use laws::Refusal;
 use layout::ROW_WORDS;
 use wire::WORD_BYTES;
 
@@ -49,11 +49,11 @@ fn read_board(
 }
 
 // Reads a blob into rows of bytes.
-pub fn read_image(width: u32, blob: &[u8], rows: &mut [u8]) -> BoardAnswer
-    ensures answer { result ≡ image_answer width blob.now (length rows.old) }
+pub fn read_image(width: u32, blob: &[u8], rows: &mut [u8]) -> Result<BoardRows, Refusal>
+    ensures answer { board_told result ≡ image_answer width blob.now (length rows.old) }
     ensures rows { rows.new ≡ image_rows width blob.now rows.old }
-    ensures words { Words result }
-    ensures demands { ImageDemands width blob.now rows.old result rows.new }
+    ensures words { Words (board_told result) }
+    ensures demands { ImageDemands width blob.now rows.old (board_told result) rows.new }
 {
     let mut nodes = [0u32; NODE_ROOM];
     let mut table = [0u32; PROPERTY_ROOM];

@@ -1,15 +1,17 @@
 // SPDX-License-Identifier: BSD-2-Clause OR GPL-2.0-or-later
 // A list of MPIDRs in bytes.
-ghost use Rattle.std.specs.Prelude.{◌≡◌, ◌/◌, ◌≤◌, length};
+ghost use Rattle.std.specs.Prelude.{◌≡◌, ◌/◌, ◌≤◌, None, IfErr, length};
+ghost use Rattle.laws.specs.answers.Told.{told_in};
+ghost use Rattle.affinity.specs.answers.Told.{slot_told};
 ghost use Rattle.laws.specs.answers.Listed.{laid_over};
 ghost use Rattle.wire.specs.facts.Bytes.{number_size, numbers_in};
 ghost use Rattle.affinity.specs.answers.List.{first_outside};
 ghost use Rattle.loader.specs.facts.List.{ByteSlotDemands};
 ghost use Rattle.loader.specs.answers.List.{byte_slot};
 
-use affinity::{ListSlot, is_affine};
-use laws::limits::{MAX_CPUS, NO_PROPERTY};
-use laws::{CLEAR, Fault, rules};
+use affinity::is_affine;
+use laws::limits::MAX_CPUS;
+use laws::{Refusal, Rule};
 use wire::{NUMBER_BYTES, number_at};
 
 // A list that is no list of 1 to 256 MPIDRs.
@@ -44,9 +46,10 @@ fn read_mpidrs(list: &[u8], mpidrs: &mut [u64]) -> Fault
 }
 
 // The slot of one MPIDR in a list of MPIDRs, eight bytes each.
-pub fn byte_slot(mpidr: u64, list: &[u8]) -> ListSlot
-    ensures answer { result ≡ byte_slot mpidr list.now }
-    ensures demands { ByteSlotDemands list.now mpidr result }
+pub fn byte_slot(mpidr: u64, list: &[u8]) -> Result<u32, Refusal>
+    ensures answer { slot_told result ≡ byte_slot mpidr list.now }
+    ensures demands { ByteSlotDemands list.now mpidr (slot_told result) }
+    ensures plain { IfErr result (λ refusal. refusal.property ≡ None) }
 {
     if list.len() % NUMBER_BYTES != 0 {
         return NO_LIST;

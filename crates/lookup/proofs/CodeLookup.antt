@@ -1,5 +1,6 @@
 -- SPDX-License-Identifier: BSD-2-Clause OR GPL-2.0-or-later
 -- The search for a property: what one record more shows, and what is found. Assumes nothing.
+use Rattle.std.specs.Prelude.{None, Some}
 use mathlib.Core.Path.{◌≡◌, sym, ap, ap₂, ◌∙◌}
 use mathlib.Core.Bool.{Bool, true, false}
 use mathlib.Core.List.{List}
@@ -9,7 +10,6 @@ use lib.ListN.{get_or}
 use borrow.Author.Tests.{lt-ltb, le-ltb, eq-eqb, ne_eqb}
 use Rattle.laws.specs.answers.Search.{lowest}
 use Rattle.laws.proofs.SearchLaws.{lowest_at, lowest_more}
-use Rattle.tables.specs.declared.Lookup.TheVariants.{At, Missing}
 use Rattle.tables.specs.answers.Range.{range_is}
 use Rattle.tables.specs.facts.Board.{prop_count, prop_node, key_offset, key_length}
 use Rattle.tables.specs.facts.Property.{found_at}
@@ -53,14 +53,14 @@ module _ (props pool : List ℕ) (node : ℕ) (key : List ℕ) where
       lowest (is_property props pool node key) k ≡ k →
       is_property props pool node key k ≡ true →
       k < prop_count props →
-      At (found_at props k) ≡ lookup props pool node key
+      Some (found_at props k) ≡ lookup props pool node key
   unfolding lookup
   found_at_lem k none test lt =
-      let e : found_below props (prop_count props) k ≡ At (found_at props k) = rw (lt-ltb k (prop_count props) lt) in
+      let e : found_below props (prop_count props) k ≡ Some (found_at props k) = rw (lt-ltb k (prop_count props) lt) in
       let found = lowest_at (is_property props pool node key) k (prop_count props) lt none test in
       sym e ∙ ap (found_below props (prop_count props)) found
 
-  pub found_none : (k : ℕ) → k ≡ prop_count props → lowest (is_property props pool node key) k ≡ k → Missing ≡ lookup props pool node key
+  pub found_none : (k : ℕ) → k ≡ prop_count props → lowest (is_property props pool node key) k ≡ k → None ≡ lookup props pool node key
   unfolding lookup
   found_none k all none =
       let e : lowest (is_property props pool node key) (prop_count props) ≡ prop_count props = rw all at none in

@@ -1,5 +1,7 @@
 -- SPDX-License-Identifier: BSD-2-Clause OR GPL-2.0-or-later
 -- The lowest match inside the pool is what is to be found. Assumes nothing.
+use Rattle.std.specs.Prelude.{None, Option, Some}
+use Rattle.tables.specs.declared.Found.{Found}
 use mathlib.Core.Path.{◌≡◌, refl, ap}
 use mathlib.Core.Logic.{⊎_elim, ◌↔◌}
 use mathlib.Core.List.{List}
@@ -9,8 +11,6 @@ use lib.ListN.{length}
 use Rattle.laws.specs.facts.Lowest.{Lowest}
 use Rattle.laws.proofs.SearchLaws.{lt_or_le}
 use Rattle.laws.proofs.LowestLaws.{lowest_unique}
-use Rattle.tables.specs.declared.Lookup.{Lookup}
-use Rattle.tables.specs.declared.Lookup.TheVariants.{At, Missing}
 use Rattle.tables.specs.facts.Board.{Board, board, key_offset, key_length}
 use Rattle.tables.specs.facts.Property.{Property, found_at}
 use Rattle.tables.specs.answers.Lookup.{lookup}
@@ -37,20 +37,20 @@ module _ (b : Board) (i : ℕ) (key : List ℕ) where
   lowest_property : {k : ℕ} → KeepsSeven b k → Lowest (Match b i key) k → Lowest (Property b i key) k
   lowest_property keeps h = record { holds = is_property_lem keeps h.holds; none_lower = λ j lt p. h.none_lower j lt (is_match p) }
 
-  found_match : {k : ℕ} {answer : Lookup} → LowestInside b i key answer → Lowest (Property b i key) k → answer ≡ At (found_at b.props k)
-  found_match (LowestInside.found h) g = ap (λ k. At (found_at b.props k)) (lowest_unique h g)
+  found_match : {k : ℕ} {answer : Option Found} → LowestInside b i key answer → Lowest (Property b i key) k → answer ≡ Some (found_at b.props k)
+  found_match (LowestInside.found h) g = ap (λ k. Some (found_at b.props k)) (lowest_unique h g)
   found_match {k} (LowestInside.missing none) g = absurd (none k g.holds)
 
-  found_none : {answer : Lookup} → LowestInside b i key answer → (answer ≡ Missing) ↔ ((k : ℕ) → Property b i key k → ⊥)
+  found_none : {answer : Option Found} → LowestInside b i key answer → (answer ≡ None) ↔ ((k : ℕ) → Property b i key k → ⊥)
   found_none (LowestInside.found {k} h) = ((λ e. let z : ◌≡◌ {A = ℕ} 0 1 = cc in omega arith), λ none. absurd (none k h.holds))
   found_none (LowestInside.missing none) = ((λ _. none), λ _. refl)
 
   -- there is one such answer
-  pub inside_unique : {answer other : Lookup} → LowestInside b i key answer → LowestInside b i key other → answer ≡ other
+  pub inside_unique : {answer other : Option Found} → LowestInside b i key answer → LowestInside b i key other → answer ≡ other
   inside_unique h (LowestInside.found g) = found_match h g
   inside_unique h (LowestInside.missing none) = (found_none h).1 none
 
-  pub inside_finds : {answer : Lookup} → LowestInside b i key answer → Finds b i key answer
+  pub inside_finds : {answer : Option Found} → LowestInside b i key answer → Finds b i key answer
   inside_finds h =
       record {
         match = λ k low keeps. found_match h (lowest_property (keeps k (omega arith)) low);
@@ -67,7 +67,7 @@ module _ (b : Board) (i : ℕ) (key : List ℕ) where
 
 -- what equals the definition meets the contract
 pub lookup_meets :
-    (props pool : List ℕ) (i : ℕ) (key : List ℕ) {answer : Lookup} →
+    (props pool : List ℕ) (i : ℕ) (key : List ℕ) {answer : Option Found} →
     answer ≡ lookup props pool i key →
     (answer ≡ lookup props pool i key) × FindsIn props pool i key answer
 lookup_meets props pool i key e = (

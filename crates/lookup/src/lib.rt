@@ -6,7 +6,7 @@ ghost use Rattle.std.specs.Prelude.{◌≡◌};
 ghost use Rattle.tables.specs.answers.Lookup.{is_property, lookup};
 ghost use Rattle.lookup.specs.facts.Finds.{FindsIn};
 
-use tables::{Lookup, found_at, prop_word, range_is};
+use tables::{Found, found_at, prop_word, range_is};
 
 // Whether property record k is the node's and has the name `key`.
 fn is_property(props: &[u32], pool: &[u8], node: usize, key: &[u8], k: usize) -> bool
@@ -19,7 +19,7 @@ fn is_property(props: &[u32], pool: &[u8], node: usize, key: &[u8], k: usize) ->
 }
 
 // The lowest property record of a node with the name `key`. `left` records are still to be tested.
-pub fn find_property(props: &[u32], pool: &[u8], node: usize, key: &[u8]) -> Lookup
+pub fn find_property(props: &[u32], pool: &[u8], node: usize, key: &[u8]) -> Option<Found>
     ensures answer { result ≡ lookup props.now pool.now node key.now }
     ensures finds { FindsIn props.now pool.now node key.now result }
 {

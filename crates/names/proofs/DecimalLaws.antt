@@ -1,5 +1,6 @@
 -- SPDX-License-Identifier: BSD-2-Clause OR GPL-2.0-or-later
 -- The digits that are read as a number are exactly its decimal digits. Assumes nothing.
+use Rattle.std.specs.Prelude.{None, Option, Some}
 use mathlib.Core.Path.{◌≡◌, refl, sym, ap, ◌∙◌}
 use mathlib.Core.Bool.{Bool, true, false, cond}
 use mathlib.Core.Logic.{⊎_elim}
@@ -11,17 +12,15 @@ use lib.Dec.{eqb, ltb}
 use lib.ListN.{length, get_or, length-append, get_or-append}
 use borrow.Author.Tests.{ltb-false, eqb-false, lt-ltb, le-ltb, ne_eqb}
 use Rattle.laws.proofs.SearchLaws.{lt_or_le}
-use Rattle.names.specs.declared.Number.{Number}
-use Rattle.names.specs.declared.Number.TheVariants.{Decimal, NotDecimal}
 use Rattle.names.specs.facts.Kind.{decimal_in, decimal}
 use Rattle.names.specs.answers.Name.{digits_from, number_of}
 
 -- no number is not a number
-pub not_is : {A : Type 0} {n : ℕ} → NotDecimal ≡ Decimal n → A
+pub not_is : {A : Type 0} {n : ℕ} → None ≡ Some n → A
 not_is {A} {n} h = let z : ◌≡◌ {A = ℕ} 0 1 = cc in absurd (omega arith)
 
 -- a byte that is read as a digit, and what is read after it
-digit_in : (d n : ℕ) (x : Number) → cond (ltb d 48) NotDecimal (cond (ltb 57 d) NotDecimal x) ≡ Decimal n → (48 ≤ d) × (d ≤ 57) × (x ≡ Decimal n)
+digit_in : (d n : ℕ) (x : Option ℕ) → cond (ltb d 48) None (cond (ltb 57 d) None x) ≡ Some n → (48 ≤ d) × (d ≤ 57) × (x ≡ Some n)
 digit_in d n x h = go (ltb d 48) refl (ltb 57 d) refl h
   where
     go :
@@ -29,8 +28,8 @@ digit_in d n x h = go (ltb d 48) refl (ltb 57 d) refl h
         ltb d 48 ≡ a →
         (b : Bool) →
         ltb 57 d ≡ b →
-        cond a NotDecimal (cond b NotDecimal x) ≡ Decimal n →
-        (48 ≤ d) × (d ≤ 57) × (x ≡ Decimal n)
+        cond a None (cond b None x) ≡ Some n →
+        (48 ≤ d) × (d ≤ 57) × (x ≡ Some n)
     go true p b q g = not_is g
     go false p true q g = not_is g
     go false p false q g = (ltb-false d 48 p, ltb-false 57 d q, g)
@@ -98,24 +97,24 @@ unfolding number_of
 number_digits ds some few first =
     rw (ne_eqb (length ds) 0 (omega arith), le-ltb 4 (length ds) few, ne_eqb (get_or ds 0 0) 48 first) (same (ltb 1 (length ds)))
   where
-    same : (b : Bool) → cond (cond b false false) NotDecimal (digits_from 0 ds) ≡ digits_from 0 ds
+    same : (b : Bool) → cond (cond b false false) None (digits_from 0 ds) ≡ digits_from 0 ds
     same true = refl
     same false = refl
 
-number_positive : (n : ℕ) → 0 < n → n < 10000 → number_of (decimal n) ≡ Decimal n
+number_positive : (n : ℕ) → 0 < n → n < 10000 → number_of (decimal n) ≡ Some n
 unfolding digits_from
 number_positive n p h =
     let s = decimal_shape 3 n h in
     number_digits (decimal n) s.0 s.1 (s.2 p) ∙ ap (digits_from 0) (sym (append-nil (decimal n))) ∙ decimal_read 3 n h []
 
-pub number_decimal : (n : ℕ) → n < 10000 → number_of (decimal n) ≡ Decimal n
+pub number_decimal : (n : ℕ) → n < 10000 → number_of (decimal n) ≡ Some n
 unfolding number_of decimal_in digits_from
 number_decimal zero h = refl
 number_decimal (suc n) h = number_positive (suc n) (omega arith) h
 
 -- the tests that digits pass
 number_tests :
-    (ds : List ℕ) (n : ℕ) → number_of ds ≡ Decimal n → (length ds ≤ 4) × (1 < length ds → get_or ds 0 0 ≡ 48 → ⊥) × (digits_from 0 ds ≡ Decimal n)
+    (ds : List ℕ) (n : ℕ) → number_of ds ≡ Some n → (length ds ≤ 4) × (1 < length ds → get_or ds 0 0 ≡ 48 → ⊥) × (digits_from 0 ds ≡ Some n)
 unfolding number_of
 number_tests ds n h = go (eqb (length ds) 0) (ltb 4 (length ds)) refl (ltb 1 (length ds)) refl (eqb (get_or ds 0 0) 48) refl h
   where
@@ -126,8 +125,8 @@ number_tests ds n h = go (eqb (length ds) 0) (ltb 4 (length ds)) refl (ltb 1 (le
         ltb 1 (length ds) ≡ c →
         (d : Bool) →
         eqb (get_or ds 0 0) 48 ≡ d →
-        cond a NotDecimal (cond b NotDecimal (cond (cond c d false) NotDecimal (digits_from 0 ds))) ≡ Decimal n →
-        (length ds ≤ 4) × (1 < length ds → get_or ds 0 0 ≡ 48 → ⊥) × (digits_from 0 ds ≡ Decimal n)
+        cond a None (cond b None (cond (cond c d false) None (digits_from 0 ds))) ≡ Some n →
+        (length ds ≤ 4) × (1 < length ds → get_or ds 0 0 ≡ 48 → ⊥) × (digits_from 0 ds ≡ Some n)
     go true b p c q d r g = not_is g
     go false true p c q d r g = not_is g
     go false false p true q true r g = not_is g
@@ -140,7 +139,7 @@ digits_written :
     k + length ds ≡ m →
     (0 < length ds → 0 < v) →
     v < 10 ^ k →
-    digits_from v ds ≡ Decimal n →
+    digits_from v ds ≡ Some n →
     (n < 10 ^ m) × (decimal_in m n ≡ decimal_in k v ++ ds)
 unfolding digits_from
 digits_written [] k m v n s p q h =
@@ -155,7 +154,7 @@ digits_written (d ∷ ds) k m v n s p q h =
     let r = digits_written ds (suc k) m (v * 10 + (d - 48)) n (omega arith) (λ _. omega arith) (omega (arith, pow-suc 10 k, t.1)) t.2 in
     (r.0, r.1 ∙ rw (decimal_more k (v * 10 + (d - 48)) (omega arith), tenth, last) (append_assoc (decimal_in k v) (d ∷ []) ds))
 
-pub decimal_number : (ds : List ℕ) (n : ℕ) → number_of ds ≡ Decimal n → (n < 10000) × (ds ≡ decimal n)
+pub decimal_number : (ds : List ℕ) (n : ℕ) → number_of ds ≡ Some n → (n < 10000) × (ds ≡ decimal n)
 unfolding number_of digits_from
 decimal_number [] n h = not_is h
 decimal_number (d ∷ ds) n h =

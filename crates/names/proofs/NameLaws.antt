@@ -1,5 +1,6 @@
 -- SPDX-License-Identifier: BSD-2-Clause OR GPL-2.0-or-later
 -- A word at a name's start and a number's digits, one byte at a time. Assumes nothing.
+use Rattle.std.specs.Prelude.{None, Some}
 use mathlib.Core.Path.{◌≡◌, refl}
 use mathlib.Core.Bool.{Bool, true, false, cond}
 use mathlib.Core.List.{List}
@@ -9,16 +10,15 @@ use native.Mathlib.Numerals.{add-one}
 use lib.Dec.{eqb, ltb}
 use lib.ListN.{length, drop, get_or, drop_of_length-le}
 use lib.Seq.{drop-cons, drop-length}
-use Rattle.names.specs.declared.Number.TheVariants.{Decimal, NotDecimal}
 use Rattle.names.specs.answers.Name.{starts_with, digits_from, number_of}
 use Rattle.names.specs.steps.Name.{number_after}
 
 -- a name no longer than the word has no number after it
-pub after_short : (word name : List ℕ) → length name ≤ length word → NotDecimal ≡ number_after word name
+pub after_short : (word name : List ℕ) → length name ≤ length word → None ≡ number_after word name
 unfolding number_after number_of
 after_short word name h = rw (drop_of_length-le name h) (same (starts_with word name))
   where
-    same : (b : Bool) → NotDecimal ≡ cond b NotDecimal NotDecimal
+    same : (b : Bool) → None ≡ cond b None None
     same true = refl
     same false = refl
 
@@ -40,11 +40,11 @@ pub digits_step :
     (ds : List ℕ) (v i : ℕ) →
     i < length ds →
     digits_from v (drop i ds)
-    ≡ cond (ltb (get_or ds i 0) 48) NotDecimal (cond (ltb 57 (get_or ds i 0)) NotDecimal (digits_from (v * 10 + (get_or ds i 0 - 48)) (drop (i + 1) ds)))
+    ≡ cond (ltb (get_or ds i 0) 48) None (cond (ltb 57 (get_or ds i 0)) None (digits_from (v * 10 + (get_or ds i 0 - 48)) (drop (i + 1) ds)))
 unfolding digits_from
 digits_step ds v i h = rw (add-one, drop-cons ds i 0 h)
 
-pub digits_end : (ds : List ℕ) (v i : ℕ) → i ≡ length ds → digits_from v (drop i ds) ≡ Decimal v
+pub digits_end : (ds : List ℕ) (v i : ℕ) → i ≡ length ds → digits_from v (drop i ds) ≡ Some v
 unfolding digits_from
 digits_end ds v i e = rw (e, drop-length ds)
 

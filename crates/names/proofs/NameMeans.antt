@@ -1,13 +1,12 @@
 -- SPDX-License-Identifier: BSD-2-Clause OR GPL-2.0-or-later
 -- What the name reader answers, as facts about the name's bytes. Assumes nothing.
+use Rattle.std.specs.Prelude.{None, Option, Some}
 use mathlib.Core.Path.{◌≡◌, refl, sym, ap, ◌∙◌}
 use mathlib.Core.Logic.{◌⊎◌, inl, inr, ⊎_elim}
 use mathlib.Core.List.{List, [], ◌∷◌, ◌++◌, append_assoc}
 use Prim.Native.Nat.{ℕ, ◌+◌, ◌%◌}
 use Rattle.names.specs.declared.TopologyName.{TopologyName}
 use Rattle.names.specs.declared.TopologyName.TheVariants.{Socket, Cluster, Core, Thread, Other}
-use Rattle.names.specs.declared.Number.{Number}
-use Rattle.names.specs.declared.Number.TheVariants.{Decimal, NotDecimal}
 use Rattle.names.specs.facts.Kind.{Kind, word, Named, Says}
 use Rattle.names.specs.answers.Name.{named_as, with_number, name_of}
 use Rattle.names.specs.steps.Name.{number_after}
@@ -23,14 +22,14 @@ kind_in (Core n) = Kind.core
 kind_in (Thread n) = Kind.thread
 kind_in Other = Kind.socket
 
-abbrev number_in : TopologyName → Number
-number_in (Socket n) = Decimal n
-number_in (Cluster n) = Decimal n
-number_in (Core n) = Decimal n
-number_in (Thread n) = Decimal n
-number_in Other = NotDecimal
+abbrev number_in : TopologyName → Option ℕ
+number_in (Socket n) = Some n
+number_in (Cluster n) = Some n
+number_in (Core n) = Some n
+number_in (Thread n) = Some n
+number_in Other = None
 
-answered_in : (kind : Kind) (n : ℕ) → (kind_in (named_as kind n) ≡ kind) × (number_in (named_as kind n) ≡ Decimal n)
+answered_in : (kind : Kind) (n : ℕ) → (kind_in (named_as kind n) ≡ kind) × (number_in (named_as kind n) ≡ Some n)
 answered_in Kind.socket n = (refl, refl)
 answered_in Kind.cluster n = (refl, refl)
 answered_in Kind.core n = (refl, refl)
@@ -38,7 +37,7 @@ answered_in Kind.thread n = (refl, refl)
 
 answered_same : (k j : Kind) (n m : ℕ) → named_as k n ≡ named_as j m → (k ≡ j) × (n ≡ m)
 answered_same k j n m h =
-    let e : Decimal n ≡ Decimal m = sym (answered_in k n).1 ∙ ap number_in h ∙ (answered_in j m).1 in
+    let e : Some n ≡ Some m = sym (answered_in k n).1 ∙ ap number_in h ∙ (answered_in j m).1 in
     (sym (answered_in k n).0 ∙ ap kind_in h ∙ (answered_in j m).0, cc)
 
 answered_other : (kind : Kind) (n : ℕ) → named_as kind n ≡ Other → ⊥
@@ -54,9 +53,9 @@ reads name = go (number_after (word (kind_of name)) name) refl
     answer : name_of name ≡ with_number (kind_of name) (number_after (word (kind_of name)) name)
     answer = name_is name (kind_of name) refl
 
-    go : (x : Number) → number_after (word (kind_of name)) name ≡ x → Reads name
-    go (Decimal n) e = inr (kind_of name, n, answer ∙ ap (with_number (kind_of name)) e, after_named name (kind_of name) n e)
-    go NotDecimal e = inl (answer ∙ ap (with_number (kind_of name)) e)
+    go : (x : Option ℕ) → number_after (word (kind_of name)) name ≡ x → Reads name
+    go (Some n) e = inr (kind_of name, n, answer ∙ ap (with_number (kind_of name)) e, after_named name (kind_of name) n e)
+    go None e = inl (answer ∙ ap (with_number (kind_of name)) e)
 
 name_named : (name : List ℕ) (kind : Kind) (n : ℕ) → name_of name ≡ named_as kind n → Named name kind n
 name_named name kind n h = ⊎_elim (λ o. absurd (answered_other kind n (sym h ∙ o))) found (reads name)

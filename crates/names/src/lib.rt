@@ -16,13 +16,6 @@ pub enum TopologyName {
     Other,
 }
 
-// One to four decimal digits, or not.
-#[derive(Clone, Copy)]
-enum Number {
-    Decimal(u32),
-    NotDecimal,
-}
-
 // Whether a name begins with a word that is no longer than it.
 fn starts_with(name: &[u8], word: &[u8]) -> bool
     requires { length word.now ≤ length name.now }
@@ -39,7 +32,7 @@ fn starts_with(name: &[u8], word: &[u8]) -> bool
 }
 
 // The number that one to four decimal digits write, with no leading zero except 0 itself.
-fn number_of(digits: &[u8]) -> Number
+fn number_of(digits: &[u8]) -> Option<u32>
     ensures { result ≡ number_of digits.now }
 {
     let n = digits.len();
@@ -71,7 +64,7 @@ fn number_of(digits: &[u8]) -> Number
 }
 
 // The number that follows a word, where the name begins with it.
-fn number_after(name: &[u8], word: &[u8]) -> Number
+fn number_after(name: &[u8], word: &[u8]) -> Option<u32>
     ensures { result ≡ number_after word.now name.now }
 {
     if name.len() <= word.len() {

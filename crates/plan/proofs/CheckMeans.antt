@@ -6,7 +6,7 @@ use mathlib.Core.List.{List}
 use mathlib.Core.Logic.{⊎_elim}
 use Prim.Native.Nat.{ℕ, zero, suc, ◌<◌}
 use native.Mathlib.Omega.{arith}
-use Rattle.laws.specs.declared.Fault.{Fault}
+use Rattle.laws.specs.facts.Told.{Fault}
 use Rattle.laws.specs.answers.Fault.{plain, told}
 use Rattle.laws.proofs.SearchLaws.{true_false}
 use Rattle.laws.proofs.DecideLaws.{decided, eq_decides}
@@ -15,7 +15,7 @@ use Rattle.laws.proofs.FirstLaws.{Tells}
 use Rattle.laws.proofs.RuleStageLaws.{Split, split_tells, tells_as, tells_first, tells_none}
 use Rattle.laws.proofs.SecondPlaceLaws.{told_plain, else_plain}
 use Rattle.laws.proofs.VerdictLaws.{Verdict, held, once_tells}
-use Rattle.affinity.specs.declared.ListMask.{ListMask}
+use Rattle.affinity.specs.facts.Told.{ListMask}
 use Rattle.affinity.specs.facts.List.{ListRule}
 use Rattle.affinity.specs.answers.List.{list_fault, mask_answer}
 use Rattle.plan.specs.facts.Plan.{Positions, SeparatedAt}

@@ -13,7 +13,7 @@ use Rattle.laws.proofs.OrElseLaws.{or_clear}
 use Rattle.laws.proofs.RuleStageLaws.{first_clears}
 use Rattle.laws.proofs.SecondPlaceLaws.{Plain, told_plain, else_plain, first_plain}
 use Rattle.laws.proofs.FirstLaws.{Tells}
-use Rattle.affinity.specs.declared.ListMask.{ListMask}
+use Rattle.affinity.specs.facts.Told.{ListMask}
 use Rattle.affinity.specs.facts.List.{ListRule, list_stage}
 use Rattle.affinity.specs.answers.Mask.{mask_of}
 use Rattle.affinity.specs.answers.List.{length_fault, bit_fault, first_outside, list_fault, mask_answer, hash_answer}

@@ -19,7 +19,7 @@ use Rattle.affinity.specs.answers.List.{list_fault}
 use Rattle.affinity.specs.steps.List.{AllAffine}
 use Rattle.affinity.proofs.HashMeans.{hash_is, hash_unique}
 use Rattle.affinity.proofs.ListLaws.{fault_affine}
-use Rattle.plan.specs.declared.Plan.{Plan}
+use Rattle.plan.specs.facts.Told.{Plan}
 use Rattle.plan.specs.facts.Rules.{IsPlan}
 use Rattle.plan.specs.facts.Planner.{positions_of, MakeAccepted, MakeDemands}
 use Rattle.plan.specs.answers.Planner.{plan_of, plan_with, plan_answer}

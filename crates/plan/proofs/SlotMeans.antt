@@ -3,7 +3,7 @@
 use mathlib.Core.Path.{◌≡◌, sym, subst}
 use mathlib.Core.List.{List}
 use Prim.Native.Nat.{ℕ}
-use Rattle.affinity.specs.declared.ListSlot.{ListSlot}
+use Rattle.affinity.specs.facts.Told.{ListSlot}
 use Rattle.affinity.proofs.AskedLaws.{asked}
 use Rattle.plan.specs.facts.Plan.{PlanSlot}
 use Rattle.plan.specs.facts.Rules.{plan_stage, PlanSlotDemands}

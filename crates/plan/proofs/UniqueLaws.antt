@@ -7,13 +7,13 @@ use Prim.Native.Nat.{ℕ, ◌≤◌, ◌<◌}
 use native.Mathlib.Omega.{arith}
 use lib.ListN.{length, get_or}
 use lib.Seq.{get_or-take, ext_get_or, length-take-le}
-use Rattle.laws.specs.declared.Fault.{Fault}
+use Rattle.laws.specs.facts.Told.{Fault}
 use Rattle.laws.proofs.SearchLaws.{lt_or_le}
 use Rattle.laws.proofs.DecideLaws.{decided, eq_decides}
 use Rattle.laws.proofs.FirstLaws.{first_unique}
-use Rattle.affinity.specs.declared.ListSlot.{ListSlot}
+use Rattle.affinity.specs.facts.Told.{ListSlot}
 use Rattle.affinity.specs.facts.List.{ListRule, SlotRule, list_stage}
-use Rattle.plan.specs.declared.Plan.{Plan}
+use Rattle.plan.specs.facts.Told.{Plan}
 use Rattle.plan.specs.facts.Rules.{PlanRule, PlanSlotRule, plan_stage, PlanDemands, PlanSlotAccepted, PlanSlotDemands}
 use Rattle.plan.specs.facts.Planner.{positions_of, MakeAccepted, MakeDemands}
 use Rattle.plan.proofs.CheckMeans.{plan_none}

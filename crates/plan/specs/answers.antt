@@ -3,3 +3,4 @@
 pub mod Check
 pub mod Slot
 pub mod Planner
+pub mod Told

@@ -3,3 +3,4 @@
 pub mod Plan
 pub mod Rules
 pub mod Planner
+pub mod Told

@@ -10,11 +10,9 @@ pub use check::check_plan;
 pub use planner::plan_of;
 pub use slot::plan_slot;
 
-// A plan: its positions, rising, are the first `count` of the array. Or the number and the place of what is wrong with the list.
+// A plan: its positions, rising, are the first `count` of the array.
 #[derive(Clone, Copy)]
 pub struct Plan {
-    pub number: u32,
-    pub place: usize,
     pub count: usize,
     pub positions: [u32; 32],
 }

@@ -1,18 +1,19 @@
 // SPDX-License-Identifier: BSD-2-Clause OR GPL-2.0-or-later
 // The slot of an MPIDR under a plan.
-ghost use Rattle.std.specs.Prelude.{◌≡◌};
+ghost use Rattle.std.specs.Prelude.{◌≡◌, None, IfErr};
+ghost use Rattle.affinity.specs.answers.Told.{slot_told};
 ghost use Rattle.plan.specs.facts.Plan.{Positions};
 ghost use Rattle.plan.specs.facts.Rules.{PlanSlotDemands};
 ghost use Rattle.plan.specs.answers.Slot.{slot_under, plan_slot};
 
 use super::check::check_plan;
-use affinity::ListSlot;
-use laws::{is_among, rules};
+use laws::{Refusal, Rule, is_among};
 
 // The slot of one MPIDR under a plan, for one that is listed.
-pub fn plan_slot(mpidr: u64, list: &[u64], positions: &[u32]) -> ListSlot
-    ensures answer { result ≡ plan_slot mpidr list.now positions.now }
-    ensures demands { PlanSlotDemands list.now positions.now mpidr result }
+pub fn plan_slot(mpidr: u64, list: &[u64], positions: &[u32]) -> Result<u32, Refusal>
+    ensures answer { slot_told result ≡ plan_slot mpidr list.now positions.now }
+    ensures demands { PlanSlotDemands list.now positions.now mpidr (slot_told result) }
+    ensures plain { IfErr result (λ refusal. refusal.property ≡ None) }
 {
     let fault = check_plan(list, positions);
     if fault.number != 0 {

@@ -1,5 +1,7 @@
 -- SPDX-License-Identifier: BSD-2-Clause OR GPL-2.0-or-later
 -- The index of properties tells what a lookup finds. Assumes nothing.
+use Rattle.std.specs.Prelude.{None, Option, Some}
+use Rattle.tables.specs.declared.Found.{Found}
 use mathlib.Core.Path.{◌≡◌, refl, ap, ◌∙◌}
 use mathlib.Core.Bool.{Bool, true, false, cond}
 use mathlib.Core.Logic.{◌⊎◌, inl, ⊎_elim}
@@ -11,8 +13,6 @@ use lib.ListN.{get_or, replicate, length-replicate, get_or-replicate, get_or-eq_
 use borrow.Author.Tests.{ne_eqb, lt-ltb, le-ltb, ltb-true}
 use Rattle.laws.specs.answers.Search.{lowest}
 use Rattle.laws.proofs.SearchLaws.{lt_or_le}
-use Rattle.tables.specs.declared.Lookup.{Lookup}
-use Rattle.tables.specs.declared.Lookup.TheVariants.{At, Missing}
 use Rattle.laws.specs.facts.Limits.{max_nodes, max_properties}
 use Rattle.tables.specs.facts.Board.{Board, board, prop_count, prop_node, key_offset, key_length}
 use Rattle.tables.specs.facts.Property.{found_at}
@@ -46,7 +46,7 @@ word_more p n = go (ltb (lowest p n) n) refl (p n)
 word_found : (props : List ℕ) (p : ℕ → Bool) (n : ℕ) → lookup_in props (lowest_word p n) ≡ found_below props n (lowest p n)
 word_found props p n = go (ltb (lowest p n) n)
   where
-    go : (t : Bool) → lookup_in props (cond t (suc (lowest p n)) 0) ≡ cond t (At (found_at props (lowest p n))) Missing
+    go : (t : Bool) → lookup_in props (cond t (suc (lowest p n)) 0) ≡ cond t (Some (found_at props (lowest p n))) None
     go true = refl
     go false = refl
 
@@ -96,7 +96,7 @@ module _ (b : Board) (i : ℕ) (key : List ℕ) where
   noted_inside (Noted.property h) = LowestInside.found h
   noted_inside (Noted.none h) = LowestInside.missing h
 
-  inside_noted : {answer : Lookup} (w : ℕ) → lookup_in b.props w ≡ answer → LowestInside b i key answer → Noted b i key w
+  inside_noted : {answer : Option Found} (w : ℕ) → lookup_in b.props w ≡ answer → LowestInside b i key answer → Noted b i key w
   inside_noted zero e (LowestInside.found h) = let z : ◌≡◌ {A = ℕ} 0 1 = cc in absurd (omega arith)
   inside_noted zero e (LowestInside.missing none) = Noted.none none
   inside_noted (suc w) e (LowestInside.found {k} h) = let same : w ≡ k = ap record_of e in rw same (Noted.property h)
@@ -120,7 +120,7 @@ module _ (props table : List ℕ) (i : ℕ) (key : Key) where
 
   -- what equals the definition meets the contract
   pub index_meets :
-      {answer : Lookup} →
+      {answer : Option Found} →
       answer ≡ indexed_at props table i key →
       (answer ≡ indexed_at props table i key) × (AsLookup props table i key answer × FindsBy props table i key answer)
   index_meets e = (

@@ -6,9 +6,8 @@ ghost use Rattle.property_index.specs.answers.Index.{noted, noted_key, indexed, 
 
 use crate::name::{key_number, key_of};
 use crate::{INDEX_WORDS, KEYS, Key};
-use laws::at_most;
 use laws::limits::{MAX_NODES, MAX_PROPERTIES};
-use tables::{Lookup, found_at, wide};
+use tables::{Found, found_at, wide};
 
 // Notes property k at a place where none is noted.
 fn note(table: &mut [u16; INDEX_WORDS], at: usize, k: usize)
@@ -63,7 +62,7 @@ pub fn index_properties(props: &[u32], pool: &[u8], table: &mut [u16; INDEX_WORD
 }
 
 // The property that is a key of record i.
-pub fn find_indexed(props: &[u32], table: &[u16; INDEX_WORDS], i: usize, key: Key) -> Lookup
+pub fn find_indexed(props: &[u32], table: &[u16; INDEX_WORDS], i: usize, key: Key) -> Option<Found>
     ensures answer { result ≡ indexed_at props.now table.now i key }
     ensures as_lookup { AsLookup props.now table.now i key result }
     ensures finds { FindsBy props.now table.now i key result }

@@ -2,12 +2,13 @@
 // Rules 5 and 6: each node record.
 ghost use Rattle.std.specs.Prelude.{◌≡◌};
 ghost use Rattle.laws.specs.answers.Fault.{first_fault};
+ghost use Rattle.laws.specs.answers.Told.{number_in, told_in};
 ghost use Rattle.tables.specs.facts.Board.{node_count};
 ghost use Rattle.records.specs.answers.Check.{sound_parent, node_fault};
 
 use crate::name::sound_name;
-use laws::limits::{MAX_NODE_NAME, NO_PARENT, NO_PROPERTY};
-use laws::{CLEAR, Fault, rules};
+use laws::limits::{MAX_NODE_NAME, NO_PARENT};
+use laws::{Refusal, Rule};
 use tables::{is_below, node_word};
 
 // Whether the parent of record i is the record before it or an ancestor of that one; record 0 has none.
@@ -25,40 +26,32 @@ fn sound_parent(nodes: &[u32], i: usize) -> bool
     is_below(nodes, before, parent)
 }
 
-// The smaller of 5 and 6 that record i breaks, or 0.
-fn node_fault(nodes: &[u32], bytes: usize, i: usize) -> u32
-    ensures { result ≡ node_fault nodes.now bytes i }
+// The smaller of 5 and 6 that record i breaks.
+fn node_fault(nodes: &[u32], bytes: usize, i: usize) -> Result<(), Rule>
+    ensures { number_in result ≡ node_fault nodes.now bytes i }
 {
     let offset = node_word(nodes, i, 1);
     let len = node_word(nodes, i, 2);
     let named = sound_name(bytes, MAX_NODE_NAME, offset, len);
     let placed = sound_parent(nodes, i);
     if !named {
-        return rules::NODE_NAME_RANGE;
+        return Err(Rule::NodeNameRange);
     }
     if !placed {
-        return rules::NODE_PARENT_ORDER;
+        return Err(Rule::NodeParentOrder);
     }
-    0
+    Ok(())
 }
 
 // The lowest record that breaks rule 5 or 6.
-pub fn first_node_fault(nodes: &[u32], bytes: usize) -> Fault
+pub fn first_node_fault(nodes: &[u32], bytes: usize) -> Result<(), Refusal>
     ensures { let table = nodes.now in
-        result ≡ first_fault (node_fault table bytes) (node_count table) }
+        told_in result ≡ first_fault (node_fault table bytes) (node_count table) }
 {
-    let n = nodes.len() / 3;
-    let mut i: usize = 0;
-    while i < n {
-        let number = node_fault(nodes, bytes, i);
-        if number != 0 {
-            return Fault {
-                number,
-                place: i,
-                second: NO_PROPERTY,
-            };
+    for i in 0..nodes.len() / 3 {
+        if let Err(rule) = node_fault(nodes, bytes, i) {
+            return Err(rule.at(i));
         }
-        i += 1;
     }
-    CLEAR
+    Ok(())
 }

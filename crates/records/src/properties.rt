@@ -2,13 +2,14 @@
 // Rules 7 and 8: each property.
 ghost use Rattle.std.specs.Prelude.{◌≡◌, false, cond, ◌+◌, ◌/◌, ◌%◌, ◌≤◌, eqb, length};
 ghost use Rattle.laws.specs.answers.Fault.{first_fault};
+ghost use Rattle.laws.specs.answers.Told.{told_in};
 ghost use Rattle.tables.specs.facts.Board.{prop_count, prop_node, key_length};
 ghost use Rattle.records.specs.answers.Check.{sound_words, property_fault};
 
 use crate::name::sound_name;
 use crate::starts::{NO_START, PLACES, start_of};
-use laws::limits::{MAX_PROPERTY_NAME, NO_PROPERTY};
-use laws::{CLEAR, Fault, rules};
+use laws::limits::MAX_PROPERTY_NAME;
+use laws::{Refusal, Rule};
 use tables::{is_inside, range_is, wide};
 
 // Whether a property's words keep rule 7 on a board of `count` node records and a pool of so many bytes.
@@ -44,14 +45,12 @@ fn may_be(props: &[u32], node: usize, len: usize, at: usize) -> bool
 }
 
 // The lowest property that breaks rule 7 or repeats an earlier one.
-pub fn first_property_fault(count: usize, props: &[u32], pool: &[u8]) -> Fault
+pub fn first_property_fault(count: usize, props: &[u32], pool: &[u8]) -> Result<(), Refusal>
     ensures { let table = props.now in
-        result ≡ first_fault (property_fault count table pool.now) (prop_count table) }
+        told_in result ≡ first_fault (property_fault count table pool.now) (prop_count table) }
 {
-    let n = props.len() / 5;
     let mut starts = [NO_START; PLACES];
-    let mut k: usize = 0;
-    'pairs: while k < n {
+    for k in 0..props.len() / 5 {
         let own = 5 * k;
         let node = wide(props[own]);
         let start = wide(props[own + 1]);
@@ -59,33 +58,15 @@ pub fn first_property_fault(count: usize, props: &[u32], pool: &[u8]) -> Fault
         let value = wide(props[own + 3]);
         let size = wide(props[own + 4]);
         if !sound_property(count, pool.len(), node, start, len, value, size) {
-            let number = rules::PROPERTY_RANGE;
-            return Fault {
-                number,
-                place: k,
-                second: NO_PROPERTY,
-            };
+            return Err(Rule::PropertyRange.at(k));
         }
-        let end = start + len;
-        let name = &pool[start..end];
-        let mut at = 5 * start_of(&mut starts, node, k);
-        while at < own {
-            if may_be(props, node, len, at) {
-                if range_is(pool, wide(props[at + 1]), len, name) {
-                    break 'pairs;
-                }
+        let name = &pool[start..start + len];
+        for j in start_of(&mut starts, node, k)..k {
+            let at = 5 * j;
+            if may_be(props, node, len, at) && range_is(pool, wide(props[at + 1]), len, name) {
+                return Err(Rule::DuplicateProperty.at(k));
             }
-            at += 5;
         }
-        k += 1;
     }
-    if n <= k {
-        return CLEAR;
-    }
-    let number = rules::DUPLICATE_PROPERTY;
-    Fault {
-        number,
-        place: k,
-        second: NO_PROPERTY,
-    }
+    Ok(())
 }

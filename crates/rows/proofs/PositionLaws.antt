@@ -1,5 +1,6 @@
 -- SPDX-License-Identifier: BSD-2-Clause OR GPL-2.0-or-later
 -- A record that is neither a socket nor a cluster stands where its parent stands. Assumes nothing.
+use Rattle.std.specs.Prelude.{None, Option, Some}
 use mathlib.Core.Path.{◌≡◌, refl, sym, ap, ◌∙◌}
 use mathlib.Core.Bool.{true}
 use mathlib.Core.List.{List}
@@ -8,8 +9,6 @@ use native.Mathlib.Omega.{arith}
 use Rattle.names.specs.declared.TopologyName.{TopologyName}
 use Rattle.names.specs.declared.TopologyName.TheVariants.{Socket, Cluster, Core, Thread, Other}
 use Rattle.tables.specs.facts.Board.{parent_word}
-use Rattle.tables.specs.declared.Parent.{Parent}
-use Rattle.tables.specs.declared.Parent.TheVariants.{Record, Top}
 use Rattle.tables.specs.answers.Tree.{parent_of}
 use Rattle.tables.proofs.TreeLaws.{parent_is}
 use Rattle.cpumap.specs.declared.Position.{Position}
@@ -19,7 +18,7 @@ use Rattle.cpumap.proofs.CodeLaws.{position_is}
 use Rattle.rows.specs.declared.Placed.{Placed}
 use Rattle.rows.specs.steps.Position.{keeps_position, placed}
 
-step_kept : (p : ℕ) (name : TopologyName) (above : Position) → keeps_position (Record p) name ≡ true → above ≡ position_step name above
+step_kept : (p : ℕ) (name : TopologyName) (above : Position) → keeps_position (Some p) name ≡ true → above ≡ position_step name above
 step_kept p (Socket n) above e = let z : ◌≡◌ {A = ℕ} 0 1 = cc in absurd (omega arith)
 step_kept p (Cluster n) above e = let z : ◌≡◌ {A = ℕ} 0 1 = cc in absurd (omega arith)
 step_kept p (Core n) above e = refl
@@ -31,7 +30,7 @@ pub placed_own : (nodes pool : List ℕ) {i : ℕ} {r : Placed} → r ≡ placed
 placed_own nodes pool e = e ∙ ap (λ (p : Placed). placed nodes pool p.node) (sym e)
 
 pub position_kept :
-    (nodes pool : List ℕ) (i : ℕ) {parent : Parent} {name : TopologyName} {above : Position} →
+    (nodes pool : List ℕ) (i : ℕ) {parent : Option ℕ} {name : TopologyName} {above : Position} →
     parent ≡ parent_of nodes i →
     name ≡ topology_name nodes pool i →
     above ≡ position_of nodes pool (parent_word nodes i) →
@@ -40,11 +39,11 @@ pub position_kept :
 position_kept nodes pool i e n a k = a ∙ go (parent_of nodes i) refl (rw (e, n) at k)
   where
     go :
-        (p : Parent) →
+        (p : Option ℕ) →
         parent_of nodes i ≡ p →
         keeps_position p (topology_name nodes pool i) ≡ true →
         position_of nodes pool (parent_word nodes i) ≡ position_of nodes pool i
-    go (Record p) h k =
+    go (Some p) h k =
         let step = step_kept p (topology_name nodes pool i) (position_of nodes pool p) k in
         rw (parent_is nodes i p h).1 (step ∙ position_is nodes pool i p h)
-    go Top h k = let z : ◌≡◌ {A = ℕ} 0 1 = cc in absurd (omega arith)
+    go None h k = let z : ◌≡◌ {A = ℕ} 0 1 = cc in absurd (omega arith)

@@ -11,6 +11,15 @@ use cpumap::Position;
 pub use slots::slots_for;
 pub use write::write_rows;
 
+// What the rows are made of: the cpu records and their `reg`s, the leaves, and for each the index of the cpu record that it names.
+#[derive(Clone, Copy)]
+pub struct Lists<'a> {
+    pub cpus: &'a [u16],
+    pub regs: &'a [u64],
+    pub leaves: &'a [u16],
+    pub named: &'a [u16],
+}
+
 // A node record and its position.
 #[derive(Clone, Copy)]
 struct Placed {

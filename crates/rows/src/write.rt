@@ -2,14 +2,14 @@
 // Writing rows: each into its own words of the lent buffer.
 ghost use Rattle.std.specs.Prelude.{◌≡◌, get_or};
 ghost use Rattle.rows.specs.steps.Position.{placed};
-ghost use Rattle.rows.specs.answers.Write.{named_cpu, written, source};
+ghost use Rattle.rows.specs.answers.Write.{named_cpu, written, source_in};
 
 use crate::leaf::row_of;
 use crate::slots::slot_by;
-use crate::{BoardSlots, NamedCpu, Placed};
+use crate::{BoardSlots, Lists, NamedCpu, Placed};
 use cpumap::position_of;
 use layout::{ROW_WORDS, put_row};
-use tables::node_word;
+use tables::{Tables, node_word};
 
 // An element of a list, 0 outside it.
 fn record_at(list: &[u16], k: usize) -> usize
@@ -51,19 +51,8 @@ fn named_cpu(cpus: &[u16], regs: &[u64], index: usize, slots: BoardSlots) -> Nam
 }
 
 // Writes a row for each leaf; nothing where there is no room for all of them.
-pub fn write_rows(
-    rows: &mut [u32],
-    nodes: &[u32],
-    pool: &[u8],
-    cpus: &[u16],
-    regs: &[u64],
-    leaves: &[u16],
-    named: &[u16],
-    slots: BoardSlots,
-)
-    ensures { let s = source nodes.now pool.now cpus.now regs.now
-        leaves.now named.now slots in
-        rows.new ≡ written s rows.old }
+pub fn write_rows(rows: &mut [u32], tables: &Tables, lists: &Lists, slots: BoardSlots)
+    ensures { rows.new ≡ written (source_in tables.now lists.now slots) rows.old }
 {
     let count = leaves.len();
     if rows.len() / ROW_WORDS < count {

@@ -5,15 +5,16 @@
 mod fill;
 
 ghost use Rattle.std.specs.Prelude.{◌≡◌};
+ghost use Rattle.laws.specs.answers.Told.{number_in};
 ghost use Rattle.slot_table.specs.answers.Table.{entries_fault};
 
 pub use fill::fill_table;
 use laws::limits::MAX_TABLE_BITS;
-use laws::rules;
+use laws::Rule;
 
 // The first of rules 38 and 39 that is broken, of a hash of so many bits and a table of so many entries.
-pub fn entries_fault(bits: u32, entries: usize) -> u32
-    ensures { result ≡ entries_fault bits entries }
+pub fn entries_fault(bits: u32, entries: usize) -> Result<(), Rule>
+    ensures { number_in result ≡ entries_fault bits entries }
 {
     if bits > MAX_TABLE_BITS {
         return rules::SLOT_TABLE_BITS;

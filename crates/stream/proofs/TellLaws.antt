@@ -1,5 +1,6 @@
 -- SPDX-License-Identifier: BSD-2-Clause OR GPL-2.0-or-later
 -- What the walk tells: a tree, or the first token that breaks the structure. Assumes nothing.
+use Rattle.std.specs.Prelude.{Err, Ok, Result}
 use mathlib.Core.Path.{◌≡◌, refl, sym, ◌∙◌, ap, subst}
 use mathlib.Core.Bool.{Bool, true, false, cond}
 use mathlib.Core.List.{List, [], ◌∷◌, ◌++◌, append-nil, append_assoc}
@@ -17,8 +18,6 @@ use Rattle.tokens.specs.answers.Read.{behind_zero, token_read}
 use Rattle.tokens.proofs.TokenLaws.{Means, token_long, token_means}
 use Rattle.stream.specs.declared.Walk.{Walk}
 use Rattle.stream.specs.declared.Next.TheVariants.{On, Ends, Breaks}
-use Rattle.stream.specs.declared.Surveyed.{Surveyed}
-use Rattle.stream.specs.declared.Surveyed.TheVariants.{Whole, Broken}
 use Rattle.stream.specs.facts.Tree.{Nodes, tokens_of}
 use Rattle.stream.specs.facts.Stream.{WholeStream, Begins, Holds, BrokenAt}
 use Rattle.stream.specs.answers.Walk.{begun_root, begun_in, begun, closed, owned, passed, step_of, onward, walk_start, walk_from, walk}
@@ -84,9 +83,9 @@ begun_is block w len next = go (eqb w.depth 1) refl
     go true e = (refl, let q = eqb-true w.depth 1 e in omega arith, refl)
     go false e = (refl, refl, refl)
 
-abbrev pub Tells : Blocks → Surveyed → Type 0
-Tells b (Whole w) = (tree : Nodes) × Holds b tree × (tally_of w ≡ tally b.structure (tokens_of tree) no_tally)
-Tells b (Broken p) = BrokenAt b p
+abbrev pub Tells : Blocks → Result Walk ℕ → Type 0
+Tells b (Ok w) = (tree : Nodes) × Holds b tree × (tally_of w ≡ tally b.structure (tokens_of tree) no_tally)
+Tells b (Err p) = BrokenAt b p
 
 -- the walk so far: what it leaves open, and the tokens that it passed
 record Came (b : Blocks) (w : Walk) (ts : List Token) : Type 0 where
@@ -102,7 +101,7 @@ module _ (b : Blocks) (even : length b.structure % 4 ≡ 0) where
   abbrev end : ℕ
   end = length b.structure
 
-  abbrev on : ℕ → Walk → Surveyed
+  abbrev on : ℕ → Walk → Result Walk ℕ
   on = walk_from b.structure (behind_zero b.strings)
 
   module _
@@ -275,7 +274,7 @@ module _ (b : Blocks) (even : length b.structure % 4 ≡ 0) where
           (t : Bool) →
           ltb w.at end ≡ t →
           ((v : Walk) (us : List Token) → Came b v us → v.at ≤ end → end - v.at ≤ k → Tells b (on k v)) →
-          Tells b (cond t (onward (step_of block w (token_read block (behind_zero b.strings) w.at)) (on k)) (Broken end))
+          Tells b (cond t (onward (step_of block w (token_read block (behind_zero b.strings) w.at)) (on k)) (Err end))
       go true e ih = tell_step k ih w ts c (ltb-true w.at end e) few (token_read block (behind_zero b.strings) w.at) (token_means b w.at)
       go false e ih = tell_out c le (ltb-false w.at end e)
 

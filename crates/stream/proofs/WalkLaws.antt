@@ -1,5 +1,6 @@
 -- SPDX-License-Identifier: BSD-2-Clause OR GPL-2.0-or-later
 -- The walk goes forward, and what it has left to do gives what it all gives. Assumes nothing.
+use Rattle.std.specs.Prelude.{Err, Ok, Result}
 use mathlib.Core.Path.{◌≡◌, refl, sym, ◌∙◌, subst}
 use mathlib.Core.Bool.{cond}
 use mathlib.Core.List.{List}
@@ -20,8 +21,6 @@ use Rattle.tokens.proofs.ZeroLaws.{zero_not_before}
 use Rattle.stream.specs.declared.Walk.{Walk}
 use Rattle.stream.specs.declared.Next.{Next}
 use Rattle.stream.specs.declared.Next.TheVariants.{On, Ends, Breaks}
-use Rattle.stream.specs.declared.Surveyed.{Surveyed}
-use Rattle.stream.specs.declared.Surveyed.TheVariants.{Whole, Broken}
 use Rattle.stream.specs.answers.Walk.{walk_start, cpus_mark, begun_root, begun_in, begun, closed, owned, passed, root_step, step_of, onward}
 use Rattle.stream.specs.answers.Walk.{walk_from, walk, Small, Bounded}
 
@@ -158,17 +157,17 @@ module _ (block : List ℕ) (w : Walk) (s : Small w) where
   step_onto Unsound h = λ lt. omega arith
 
 -- What the whole walk gives is what the rest of it gives, with tokens enough. A walk that stands behind the block's end takes no step.
-pub record Walked (block : List ℕ) (named : ℕ) (whole : Surveyed) (w : Walk) : Type 0 where
+pub record Walked (block : List ℕ) (named : ℕ) (whole : Result Walk ℕ) (w : Walk) : Type 0 where
   pub small : w.at < length block → Small w
   pub left : ℕ
   pub enough : length block - w.at ≤ left
   pub same : whole ≡ walk_from block named left w
 
 -- what follows from a token at a place: the walk goes on further, or what it gives is known
-abbrev pub Stepped : List ℕ → ℕ → Surveyed → ℕ → Next → Type 0
+abbrev pub Stepped : List ℕ → ℕ → Result Walk ℕ → ℕ → Next → Type 0
 Stepped block named whole at (On v) = Walked block named whole v × (at < v.at)
-Stepped block named whole at (Ends v) = (Whole v ≡ whole) × Bounded (length block) (Whole v)
-Stepped block named whole at (Breaks p) = (Broken p ≡ whole) × Bounded (length block) (Broken p)
+Stepped block named whole at (Ends v) = (Ok v ≡ whole) × Bounded (length block) (Ok v)
+Stepped block named whole at (Breaks p) = (Err p ≡ whole) × Bounded (length block) (Err p)
 
 module _ (block : List ℕ) (named : ℕ) (le : length block ≤ 2 ^ 63) where
   pub walked_start : (start : ℕ) → Walked block named (walk block named start) (walk_start start)
@@ -189,7 +188,7 @@ module _ (block : List ℕ) (named : ℕ) (le : length block ≤ 2 ^ 63) where
         same = refl;
       }
 
-  module _ {whole : Surveyed} {w : Walk} (h : Walked block named whole w) where
+  module _ {whole : Result Walk ℕ} {w : Walk} (h : Walked block named whole w) where
     pub walked_step : w.at < length block → (n : Next) → n ≡ step_of block w (token_read block named w.at) → Stepped block named whole w.at n
     unfolding walk_from
     walked_step lt n is = go h.left h.enough h.same
@@ -214,10 +213,10 @@ module _ (block : List ℕ) (named : ℕ) (le : length block ≤ 2 ^ 63) where
         go (suc k) enough same = rest k n enough onto (sym (same ∙ rw (lt-ltb w.at (length block) lt, is)))
 
     -- no token left
-    pub walked_end : length block ≤ w.at → Broken (length block) ≡ whole
+    pub walked_end : length block ≤ w.at → Err (length block) ≡ whole
     unfolding walk_from
     walked_end past = sym (h.same ∙ go h.left)
       where
-        go : (k : ℕ) → walk_from block named k w ≡ Broken (length block)
+        go : (k : ℕ) → walk_from block named k w ≡ Err (length block)
         go zero = refl
         go (suc k) = rw (le-ltb w.at (length block) past)

@@ -28,10 +28,3 @@ pub enum Next {
     Ends(Walk),
     Breaks(usize),
 }
-
-// What a walk finds: a whole stream, or the place that breaks it.
-#[derive(Clone, Copy)]
-pub enum Surveyed {
-    Whole(Walk),
-    Broken(usize),
-}

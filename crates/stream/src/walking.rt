@@ -4,11 +4,11 @@ ghost use Rattle.std.specs.Prelude.{◌≡◌, length};
 ghost use Rattle.stream.specs.answers.Walk.{walk, Bounded};
 
 use crate::step::step;
-use crate::{Next, Surveyed, Walk};
+use crate::{Next, Walk};
 use tokens::token_at;
 
-// The walk from `start` up to the end of the block. Names of properties begin before `named`.
-pub fn survey(block: &[u8], named: usize, start: usize) -> Surveyed
+// The walk from `start` up to the end of the block, or the place that breaks the stream. Names of properties begin before `named`.
+pub fn survey(block: &[u8], named: usize, start: usize) -> Result<Walk, usize>
     ensures walk { result ≡ walk block.now named start }
     ensures bounded { Bounded (length block.now) result }
 {

@@ -1,5 +1,6 @@
 -- SPDX-License-Identifier: BSD-2-Clause OR GPL-2.0-or-later
 -- Ancestors by the parent. Assumes nothing.
+use Rattle.std.specs.Prelude.{Some}
 use mathlib.Core.Path.{◌≡◌, refl, sym, ap, ◌∙◌}
 use mathlib.Core.Bool.{Bool, true, false, cond}
 use mathlib.Core.List.{List}
@@ -7,7 +8,6 @@ use Prim.Native.Nat.{ℕ, ◌≤◌, ◌<◌}
 use native.Mathlib.Omega.{arith}
 use lib.Dec.{eqb}
 use borrow.Author.Tests.{ne_eqb, eqb-true, eqb-false}
-use Rattle.tables.specs.declared.Parent.TheVariants.{Record}
 use Rattle.tables.specs.answers.Tree.{parent_of, is_below}
 use Rattle.tables.specs.steps.Tree.{is_at_or_below}
 use Rattle.tables.specs.facts.Tree.{Ancestor}
@@ -40,7 +40,7 @@ module _ (nodes : List ℕ) where
   reach_on a p lt = rw (ne_eqb p a (λ e. omega arith))
 
   -- a record is below what its parent is or is below
-  pub below_from : (a i p : ℕ) → parent_of nodes i ≡ Record p → is_at_or_below nodes p a ≡ is_below nodes i a
+  pub below_from : (a i p : ℕ) → parent_of nodes i ≡ Some p → is_at_or_below nodes p a ≡ is_below nodes i a
   below_from a i p h = go (eqb p a) refl
     where
       go : (t : Bool) → eqb p a ≡ t → cond t true (is_below nodes p a) ≡ is_below nodes i a

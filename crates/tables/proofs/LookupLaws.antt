@@ -1,5 +1,7 @@
 -- SPDX-License-Identifier: BSD-2-Clause OR GPL-2.0-or-later
 -- What the lookup of a property answers. Assumes nothing.
+use Rattle.std.specs.Prelude.{None, Option, Some}
+use Rattle.tables.specs.declared.Found.{Found}
 use mathlib.Core.Path.{◌≡◌, refl}
 use mathlib.Core.Bool.{Bool, true, false, cond}
 use mathlib.Core.Logic.{◌⊎◌, inl, inr}
@@ -14,8 +16,6 @@ use Rattle.laws.specs.answers.Search.{lowest}
 use Rattle.laws.proofs.SearchLaws.{true_false, lowest_below, lowest_passes}
 use Rattle.laws.proofs.SameLaws.{same_refl, same_equal}
 use Rattle.laws.proofs.TestLaws.{both_true}
-use Rattle.tables.specs.declared.Lookup.{Lookup}
-use Rattle.tables.specs.declared.Lookup.TheVariants.{At, Missing}
 use Rattle.tables.specs.facts.Board.{Board, Inside, range, prop_count, prop_node, key_offset, key_length}
 use Rattle.tables.specs.answers.Range.{range_is}
 use Rattle.tables.specs.facts.Property.{Property, found_at}
@@ -58,9 +58,9 @@ module _ (b : Board) (i : ℕ) (key : List ℕ) where
   found = lowest test count
 
   -- what the lookup answers, on any tables: the lowest record that matches, or that none does
-  abbrev pub Answers : Lookup → Type 0
+  abbrev pub Answers : Option Found → Type 0
   Answers l =
-      ((k : ℕ) × (l ≡ At (found_at b.props k)) × Lowest (Property b i key) k) ⊎ ((l ≡ Missing) × ((k : ℕ) → Property b i key k → ⊥))
+      ((k : ℕ) × (l ≡ Some (found_at b.props k)) × Lowest (Property b i key) k) ⊎ ((l ≡ None) × ((k : ℕ) → Property b i key k → ⊥))
 
   pub lookup_cases : Answers (lookup b.props b.pool i key)
   unfolding lookup
@@ -73,7 +73,7 @@ module _ (b : Board) (i : ℕ) (key : List ℕ) where
             none_lower = λ j lt h. true_false (true_is_property j h) (lowest_below test count j lt);
           }
 
-      go : (t : Bool) → ltb found count ≡ t → Answers (cond t (At (found_at b.props found)) Missing)
+      go : (t : Bool) → ltb found count ≡ t → Answers (cond t (Some (found_at b.props found)) None)
       go true e = inl (found, refl, at_found e)
       go false e =
           inr (refl, λ k h. true_false (true_is_property k h) (lowest_below test count k (omega (arith, h.inside, ltb-false found count e))))

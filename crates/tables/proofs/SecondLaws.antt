@@ -10,7 +10,7 @@ use lib.Dec.{eqb}
 use borrow.Author.Tests.{eqb-true, eqb-false}
 use Rattle.laws.specs.facts.First.{has}
 use Rattle.laws.specs.facts.Limits.{no_property}
-use Rattle.laws.specs.declared.Fault.{Fault}
+use Rattle.laws.specs.facts.Told.{Fault}
 use Rattle.laws.specs.answers.Fault.{told, or_else, first_fault, with_second}
 use Rattle.laws.proofs.SearchLaws.{true_false}
 use Rattle.laws.proofs.FaultLaws.{first_is}

@@ -1,5 +1,6 @@
 -- SPDX-License-Identifier: BSD-2-Clause OR GPL-2.0-or-later
 -- Values by recursion on the parent, and the ancestor test, which decides the relation. Assumes nothing.
+use Rattle.std.specs.Prelude.{None, Some}
 use mathlib.Core.Path.{◌≡◌, refl, sym, ap, ◌∙◌}
 use mathlib.Core.Bool.{Bool, true, false, cond}
 use mathlib.Core.List.{List}
@@ -9,7 +10,6 @@ use native.Mathlib.Omega.{arith}
 use Rattle.tables.specs.facts.Board.{node_count, parent_word}
 use lib.Dec.{ltb, eqb}
 use borrow.Author.Tests.{lt-ltb, le-ltb, ltb-true, eq-eqb, eqb-true}
-use Rattle.tables.specs.declared.Parent.TheVariants.{Record, Top}
 use Rattle.tables.specs.answers.Tree.{has_parent, climb_in, climb, below_step, parent_of, is_below}
 use Rattle.tables.specs.facts.Tree.{Child, Ancestor}
 
@@ -41,23 +41,23 @@ module _ (nodes : List ℕ) where
       go false p q = let z : ◌≡◌ {A = ℕ} 0 1 = cc in absurd (omega arith)
 
   -- what an answer of `parent_of` shows
-  pub parent_is : (i p : ℕ) → parent_of nodes i ≡ Record p → (has_parent nodes i ≡ true) × (parent_word nodes i ≡ p) × (p < i)
+  pub parent_is : (i p : ℕ) → parent_of nodes i ≡ Some p → (has_parent nodes i ≡ true) × (parent_word nodes i ≡ p) × (p < i)
   unfolding parent_of
   parent_is i p h = go (has_parent nodes i) refl h
     where
       go :
           (b : Bool) →
           has_parent nodes i ≡ b →
-          cond b (Record (parent_word nodes i)) Top ≡ Record p →
+          cond b (Some (parent_word nodes i)) None ≡ Some p →
           (has_parent nodes i ≡ true) × (parent_word nodes i ≡ p) × (p < i)
       go true e g = let w : parent_word nodes i ≡ p = cc in (e, w, rw w at (the_parent i e).earlier)
       go false e g = let z : ◌≡◌ {A = ℕ} 0 1 = cc in absurd (omega arith)
 
-  pub parent_top : (i : ℕ) → parent_of nodes i ≡ Top → has_parent nodes i ≡ false
+  pub parent_top : (i : ℕ) → parent_of nodes i ≡ None → has_parent nodes i ≡ false
   unfolding parent_of
   parent_top i h = go (has_parent nodes i) refl h
     where
-      go : (b : Bool) → has_parent nodes i ≡ b → cond b (Record (parent_word nodes i)) Top ≡ Top → has_parent nodes i ≡ false
+      go : (b : Bool) → has_parent nodes i ≡ b → cond b (Some (parent_word nodes i)) None ≡ None → has_parent nodes i ≡ false
       go true e g = let z : ◌≡◌ {A = ℕ} 0 1 = cc in absurd (omega arith)
       go false e g = e
 

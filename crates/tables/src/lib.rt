@@ -14,11 +14,12 @@ pub use property::{found_at, record_of};
 pub use tree::{is_below, is_child, name_is, parent_of};
 pub use words::{node_word, prop_word, wide};
 
-// A record's parent, or Top where it has none.
+// The three tables.
 #[derive(Clone, Copy)]
-pub enum Parent {
-    Record(usize),
-    Top,
+pub struct Tables<'a> {
+    pub nodes: &'a [u32],
+    pub props: &'a [u32],
+    pub pool: &'a [u8],
 }
 
 // A property that was found: the number of its record, and where its value stands in the pool.
@@ -27,11 +28,4 @@ pub struct Found {
     pub number: usize,
     pub offset: usize,
     pub len: usize,
-}
-
-// The property that was looked for, or Missing.
-#[derive(Clone, Copy)]
-pub enum Lookup {
-    At(Found),
-    Missing,
 }

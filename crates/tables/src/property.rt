@@ -1,12 +1,12 @@
 // SPDX-License-Identifier: BSD-2-Clause OR GPL-2.0-or-later
 // A property record that was found, and its number.
 ghost use Rattle.std.specs.Prelude.{◌≡◌};
+ghost use Rattle.laws.specs.answers.Told.{second_of};
 ghost use Rattle.tables.specs.facts.Property.{found_at};
 ghost use Rattle.tables.specs.answers.Lookup.{record_of};
 
 use crate::words::{prop_word, wide};
-use crate::{Found, Lookup};
-use laws::limits::NO_PROPERTY;
+use crate::Found;
 
 // Property record k as it is found. The words of a whole record are read at once.
 pub fn found_at(props: &[u32], k: usize) -> Found
@@ -27,9 +27,10 @@ pub fn found_at(props: &[u32], k: usize) -> Found
     }
 }
 
-// The number of the record that was found, or NO_PROPERTY: the second place of what is told of it.
-pub fn record_of(found: Lookup) -> usize
-    ensures { result ≡ record_of found }
+// The number of the record that was found: what is told of it, too.
+pub fn record_of(found: Option<Found>) -> Option<usize>
+    ensures record { second_of result ≡ record_of found }
+    ensures number { result ≡ option_map (λ property. property.number) found }
 {
     let Lookup::At(property) = found else {
         return NO_PROPERTY;

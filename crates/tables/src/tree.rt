@@ -6,12 +6,12 @@ ghost use Rattle.tables.specs.answers.Range.{range_is};
 ghost use Rattle.tables.specs.answers.Tree.{is_child, parent_of, is_below};
 ghost use Rattle.tables.specs.steps.Tree.{is_at_or_below};
 
-use crate::Parent;
+use crate::Tables;
 use crate::pool::range_is;
 use crate::words::{node_word, wide};
 
 // The parent of record i. A record outside the table has none, nor has one whose parent word is not below its number.
-pub fn parent_of(nodes: &[u32], i: usize) -> Parent
+pub fn parent_of(nodes: &[u32], i: usize) -> Option<usize>
     ensures { result ≡ parent_of nodes.now i }
 {
     if nodes.len() / 3 <= i {
@@ -66,9 +66,9 @@ pub fn is_below(nodes: &[u32], i: usize, a: usize) -> bool
 }
 
 // Whether the name of record i is the given one.
-pub fn name_is(nodes: &[u32], pool: &[u8], i: usize, bytes: &[u8]) -> bool
-    ensures { let table = nodes.now in
-        result ≡ range_is pool.now (name_offset table i) (name_length table i) bytes.now }
+pub fn name_is(tables: &Tables, i: usize, bytes: &[u8]) -> bool
+    ensures { let table = tables.now.nodes.now in
+        result ≡ range_is tables.now.pool.now (name_offset table i) (name_length table i) bytes.now }
 {
     range_is(pool, node_word(nodes, i, 1), node_word(nodes, i, 2), bytes)
 }

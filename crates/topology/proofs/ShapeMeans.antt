@@ -19,7 +19,7 @@ use Rattle.cpumap.specs.facts.Map.{Map, InMap, Outside, OfKind}
 use Rattle.cpumap.specs.answers.Path.{topology_name}
 use Rattle.cpumap.specs.answers.Number.{kind_number}
 use Rattle.cpumap.proofs.MapMeans.{in_map_test, in_map_later, outside_is, outside_not_below}
-use Rattle.topology.specs.declared.RecordShape.{RecordShape}
+use Rattle.topology.specs.facts.Told.{RecordShape}
 use Rattle.topology.specs.facts.Rules.{TopologyRule}
 use Rattle.topology.specs.answers.Check.{group_fault, is_leaf_name, map_record_fault, shape, map_record_shape, record_shape}
 use Rattle.topology.proofs.RecordMeans.{record_told}

@@ -13,7 +13,7 @@ use Rattle.tables.specs.facts.Board.{parent_word}
 use Rattle.tables.specs.answers.Tree.{is_below}
 use Rattle.cpumap.specs.answers.Number.{kind_number, topology_number}
 use Rattle.cpumap.specs.answers.Path.{topology_name, cluster_path}
-use Rattle.topology.specs.declared.RecordShape.{RecordShape}
+use Rattle.topology.specs.facts.Told.{RecordShape}
 use Rattle.topology.specs.answers.Siblings.{is_free, number_fault}
 use Rattle.topology.specs.answers.Check.{has_child, allowed_under, allowed_in_map, kind_fault, group_fault, depth_fault, is_leaf_name, shape_fault}
 use Rattle.topology.specs.answers.Check.{map_record_fault, map_record_shape, shape, record_shape}

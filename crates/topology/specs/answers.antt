@@ -2,3 +2,4 @@
 -- What public contracts equate their results with.
 pub mod Siblings
 pub mod Check
+pub mod Told

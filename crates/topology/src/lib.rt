@@ -8,10 +8,3 @@ mod shape;
 mod siblings;
 
 pub use record::record_shape;
-
-// What a record breaks of 18 to 23, 0 where nothing, and whether it is a leaf.
-#[derive(Clone, Copy)]
-pub struct RecordShape {
-    pub number: u32,
-    pub leaf: bool,
-}

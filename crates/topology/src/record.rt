@@ -1,19 +1,20 @@
 // SPDX-License-Identifier: BSD-2-Clause OR GPL-2.0-or-later
 // Rules 18 to 23 at one record, and whether it is a leaf.
 ghost use Rattle.std.specs.Prelude.{◌≡◌, cond, ◌<◌, eqb};
+ghost use Rattle.laws.specs.answers.Told.{number_in};
+ghost use Rattle.topology.specs.answers.Told.{shape_told};
 ghost use Rattle.tables.specs.facts.Board.{node_count, parent_word};
 ghost use Rattle.cpumap.specs.answers.Path.{topology_name};
 ghost use Rattle.cpumap.specs.answers.Number.{kind_number};
 ghost use Rattle.topology.specs.answers.Check.{is_leaf_name, map_record_fault, map_record_shape, record_shape};
 
-use crate::RecordShape;
 use crate::kind::kind_fault;
 use crate::shape::{group_fault, has_child, shape_fault};
 use crate::siblings::number_fault;
 use cpumap::{kind_number, topology_name, topology_number};
-use laws::rules;
+use laws::Rule;
 use names::TopologyName;
-use tables::{is_below, node_word};
+use tables::{Tables, is_below, node_word};
 
 // The smallest of 19 to 23 that record i, below the map and so named, breaks; or 0.
 fn map_record_fault(nodes: &[u32], pool: &[u8], map: usize, i: usize, name: TopologyName) -> u32
@@ -82,9 +83,9 @@ fn outside_fault(name: TopologyName) -> u32
     rules::TOPOLOGY_OUTSIDE_MAP
 }
 
-// What record i breaks of 18 to 23, and whether it is a leaf.
-pub fn record_shape(nodes: &[u32], pool: &[u8], map: usize, i: usize) -> RecordShape
-    ensures { result ≡ record_shape nodes.now pool.now map i }
+// Whether record i is a leaf, or the first of 18 to 23 that it breaks.
+pub fn record_shape(tables: &Tables, map: usize, i: usize) -> Result<bool, Rule>
+    ensures { shape_told result ≡ record_shape tables.now.nodes.now tables.now.pool.now map i }
 {
     if i == 0 {
         return RecordShape {

@@ -3,7 +3,7 @@
 use mathlib.Core.Path.{◌≡◌, sym, ap, ◌∙◌}
 use Prim.Native.Nat.{ℕ}
 use lib.ListN.{length}
-use Rattle.laws.specs.declared.Fault.{Fault}
+use Rattle.laws.specs.facts.Told.{Fault}
 use Rattle.laws.specs.answers.Fault.{plain, told, or_else, first_fault, or_number}
 use Rattle.laws.proofs.FaultLaws.{or_first, or_second}
 use Rattle.laws.proofs.OrElseLaws.{told_or, told_first, told_second}

@@ -8,7 +8,7 @@ use native.Mathlib.Omega.{arith}
 use lib.Dec.{eqb}
 use lib.ListN.{length}
 use borrow.Author.Tests.{eqb-true, eqb-false}
-use Rattle.laws.specs.declared.Fault.{Fault}
+use Rattle.laws.specs.facts.Told.{Fault}
 use Rattle.laws.specs.answers.Fault.{told, first_fault}
 use Rattle.laws.proofs.SecondPlaceLaws.{Plain, told_plain, else_plain, first_plain}
 use Rattle.tables.specs.facts.Board.{Board, node_count, prop_count}

@@ -2,12 +2,12 @@
 -- What is answered of a list of MPIDRs: numbers 28, 29 and 30.
 use Rattle.std.specs.Prelude.{Bool, cond, List, ℕ, eqb, ltb, length, get_or}
 use Rattle.laws.specs.facts.Limits.{max_cpus}
-use Rattle.laws.specs.declared.Fault.{Fault}
+use Rattle.laws.specs.facts.Told.{Fault}
 use Rattle.laws.specs.answers.Fault.{told, or_else, first_fault}
 use Rattle.laws.specs.answers.Search.{is_among}
-use Rattle.affinity.specs.declared.ListHash.{ListHash}
-use Rattle.affinity.specs.declared.ListMask.{ListMask}
-use Rattle.affinity.specs.declared.ListSlot.{ListSlot}
+use Rattle.affinity.specs.facts.Told.{ListHash}
+use Rattle.affinity.specs.facts.Told.{ListMask}
+use Rattle.affinity.specs.facts.Told.{ListSlot}
 use Rattle.affinity.specs.answers.Level.{is_affine}
 use Rattle.affinity.specs.answers.Mask.{mask_of}
 use Rattle.affinity.specs.facts.List.{no_hash}

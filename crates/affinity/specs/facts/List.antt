@@ -5,8 +5,8 @@ use Rattle.laws.specs.facts.Listing.{Member}
 use Rattle.laws.specs.facts.Limits.{max_cpus}
 use Rattle.laws.specs.facts.First.{stage_in, First}
 use Rattle.affinity.specs.declared.Hash.{Hash}
-use Rattle.affinity.specs.declared.ListHash.{ListHash}
-use Rattle.affinity.specs.declared.ListSlot.{ListSlot}
+use Rattle.affinity.specs.facts.Told.{ListHash}
+use Rattle.affinity.specs.facts.Told.{ListSlot}
 use Rattle.affinity.specs.facts.Level.{Affine}
 use Rattle.affinity.specs.facts.Hash.{IsHash}
 use Rattle.affinity.specs.facts.Slot.{slot_of}

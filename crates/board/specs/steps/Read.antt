@@ -2,15 +2,15 @@
 -- What is told of a board, by what is asked for.
 use Rattle.std.specs.Prelude.{cond, List, ℕ, eqb}
 use Rattle.laws.specs.facts.Limits.{no_property}
-use Rattle.laws.specs.declared.Fault.{Fault}
+use Rattle.laws.specs.facts.Told.{Fault}
 use Rattle.laws.specs.answers.Fault.{told, or_else}
 use Rattle.slot_table.specs.answers.Table.{entries_fault}
 use Rattle.tables.specs.facts.Board.{Board}
 use Rattle.rows.specs.answers.Slots.{slots_for, board_hash}
-use Rattle.demands.specs.declared.BoardAnswer.{BoardAnswer}
+use Rattle.demands.specs.facts.Told.{BoardAnswer}
 use Rattle.demands.specs.answers.Answer.{room_fault, board_fault, refused_with}
-use Rattle.board.specs.declared.Surveyed.{Surveyed}
-use Rattle.board.specs.declared.Checked.{Checked}
+use Rattle.board.specs.steps.Told.{Surveyed}
+use Rattle.board.specs.steps.Told.{Checked}
 use Rattle.board.specs.declared.Asked.{Asked}
 use Rattle.board.specs.declared.Asked.TheVariants.{Rows, Slots}
 

@@ -1,12 +1,12 @@
 -- SPDX-License-Identifier: BSD-2-Clause OR GPL-2.0-or-later
 -- What a survey answers, and what it leaves in the lent arrays.
 use Rattle.std.specs.Prelude.{cond, ◌≡◌, List, ℕ, eqb, length}
-use Rattle.laws.specs.declared.Fault.{Fault}
+use Rattle.laws.specs.facts.Told.{Fault}
 use Rattle.laws.specs.answers.Listed.{laid_over}
 use Rattle.tables.specs.facts.Board.{Board}
 use Rattle.cpus.specs.answers.Check.{cpu_count, cpu_list, reg_list}
 use Rattle.leaves.specs.answers.Scan.{leaves_of, named_of}
-use Rattle.board.specs.declared.Surveyed.{Surveyed}
+use Rattle.board.specs.steps.Told.{Surveyed}
 use Rattle.demands.specs.answers.Survey.{survey_fault}
 
 -- a refusal: every other result is 0

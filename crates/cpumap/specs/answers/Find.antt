@@ -1,14 +1,14 @@
 -- SPDX-License-Identifier: BSD-2-Clause OR GPL-2.0-or-later
 -- Finding the map: rules 15 and 16.
 use Rattle.std.specs.Prelude.{Bool, false, cond, List, ℕ, ltb, eqb}
-use Rattle.laws.specs.declared.Fault.{Fault}
+use Rattle.laws.specs.facts.Told.{Fault}
 use Rattle.laws.specs.answers.Search.{lowest}
 use Rattle.laws.specs.answers.Fault.{told, or_else, first_fault}
 use Rattle.tables.specs.facts.Board.{node_count, name_offset, name_length}
 use Rattle.tables.specs.facts.Binding.{map_word}
 use Rattle.tables.specs.answers.Range.{range_is}
 use Rattle.tables.specs.answers.Tree.{is_child}
-use Rattle.cpumap.specs.declared.MapScan.{MapScan}
+use Rattle.cpumap.specs.facts.Told.{MapScan}
 
 -- whether record i is named `cpu-map`
 unfoldable pub is_map_name : List ℕ → List ℕ → ℕ → Bool

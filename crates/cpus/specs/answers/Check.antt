@@ -1,7 +1,7 @@
 -- SPDX-License-Identifier: BSD-2-Clause OR GPL-2.0-or-later
 -- What the checks of rules 9 to 13, 36 and 37, and of rule 17 answer.
-use Rattle.std.specs.Prelude.{Bool, true, false, cond, List, map, ℕ, ltb, eqb}
-use Rattle.laws.specs.declared.Fault.{Fault}
+use Rattle.std.specs.Prelude.{Bool, true, false, cond, List, map, ℕ, ltb, eqb, Some, None, Option}
+use Rattle.laws.specs.facts.Told.{Fault}
 use Rattle.laws.specs.answers.Search.{count_below, list_below}
 use Rattle.laws.specs.facts.Limits.{max_cpus}
 use Rattle.laws.specs.answers.Fault.{told, or_else, with_second}
@@ -11,14 +11,10 @@ use Rattle.tables.specs.answers.Range.{range_is}
 use Rattle.tables.specs.facts.Board.{Board, arm64, node_count, name_offset, name_length}
 use Rattle.tables.specs.answers.Tree.{is_child}
 use Rattle.cpus.specs.declared.Cells.TheVariants.{One, Two}
-use Rattle.cpus.specs.declared.RootCells.{RootCells}
-use Rattle.cpus.specs.declared.RootCells.TheVariants.{Are, Broken}
-use Rattle.cpus.specs.declared.RootReading.{RootReading}
-use Rattle.cpus.specs.declared.Value.{Value}
-use Rattle.cpus.specs.declared.Value.TheVariants.{Number, Invalid}
+use Rattle.cpus.specs.facts.Told.{RootReading}
 use Rattle.cpus.specs.declared.Cells.{Cells}
 use Rattle.cpus.specs.declared.CpuNumbers.TheVariants.{Regs, Phandles}
-use Rattle.cpus.specs.declared.CpuReading.{CpuReading}
+use Rattle.cpus.specs.facts.Told.{CpuReading}
 use Rattle.cpus.specs.answers.Cell.{cell_of, is_number}
 use Rattle.cpus.specs.answers.Numbers.{reading_of, first_record}
 
@@ -30,17 +26,17 @@ unfoldable pub is_cpu : List ℕ → List ℕ → ℕ → Bool
 is_cpu nodes pool i = cond (is_child nodes 0 i) (is_cpu_name pool (name_offset nodes i) (name_length nodes i)) false
 
 -- what `#address-cells` gives a board of a width: one cell, or on 64-bit ARM two
-abbrev pub cells_for : ℕ → Value → RootCells
-cells_for width (Number n) = cond (eqb n 1) (Are One) (cond (eqb n 2) (cond (eqb width arm64) (Are Two) Broken) Broken)
-cells_for width Invalid = Broken
+abbrev pub cells_for : ℕ → Option ℕ → Option Cells
+cells_for width (Some n) = cond (eqb n 1) (Some One) (cond (eqb n 2) (cond (eqb width arm64) (Some Two) None) None)
+cells_for width None = None
 
-unfoldable pub address_cells : Board → RootCells
+unfoldable pub address_cells : Board → Option Cells
 address_cells b = cells_for b.width (cell_of b.props b.pool 0 address_cells_key)
 
 -- the cells of the board's `reg`s; one where rule 36 is broken: what is read by it is then not told
-abbrev pub cells_of : RootCells → Cells
-cells_of (Are cells) = cells
-cells_of Broken = One
+abbrev pub cells_of : Option Cells → Cells
+cells_of (Some cells) = cells
+cells_of None = One
 
 abbrev pub reg_cells : Board → Cells
 reg_cells b = cells_of (address_cells b)
@@ -49,11 +45,11 @@ reg_cells b = cells_of (address_cells b)
 abbrev pub name_fault : Board → ℕ
 name_fault b = cond (range_is b.pool (name_offset b.nodes 0) (name_length b.nodes 0) cpus_word) 0 9
 
-abbrev pub address_fault : RootCells → ℕ
-address_fault (Are cells) = 0
-address_fault Broken = 36
+abbrev pub address_fault : Option Cells → ℕ
+address_fault (Some cells) = 0
+address_fault None = 36
 
-abbrev pub size_fault : Value → ℕ
+abbrev pub size_fault : Option ℕ → ℕ
 size_fault value = cond (is_number value 0) 0 37
 
 -- what is told of record 0, of its property `key`

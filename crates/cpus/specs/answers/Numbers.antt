@@ -1,20 +1,18 @@
 -- SPDX-License-Identifier: BSD-2-Clause OR GPL-2.0-or-later
 -- A number of each cpu record of a list, its `reg` or its phandle, gathered in one pass over the list.
-use Rattle.std.specs.Prelude.{cond, Bool, List, map, ℕ, eqb, length, get_or, take}
+use Rattle.tables.specs.declared.Found.{Found}
+use Rattle.std.specs.Prelude.{cond, Bool, List, map, ℕ, eqb, length, get_or, take, Option, None, Some}
 use Rattle.laws.specs.facts.Limits.{no_property}
-use Rattle.laws.specs.declared.Fault.{Fault}
+use Rattle.laws.specs.facts.Told.{Fault}
 use Rattle.laws.specs.answers.Search.{is_among}
 use Rattle.laws.specs.answers.Listed.{laid_over, fault_of_member, members_passed}
 use Rattle.laws.specs.answers.Fault.{first_fault, with_second}
-use Rattle.tables.specs.declared.Lookup.{Lookup}
 use Rattle.tables.specs.answers.Lookup.{lookup, record_of}
 use Rattle.property_index.specs.declared.Key.{Key}
 use Rattle.property_index.specs.declared.Key.TheVariants.{Reg, Phandle, DeviceType}
 use Rattle.property_index.specs.answers.Index.{indexed_at}
 use Rattle.property_index.specs.facts.Key.{key_name}
-use Rattle.cpus.specs.declared.CpuReading.{CpuReading}
-use Rattle.cpus.specs.declared.Value.{Value}
-use Rattle.cpus.specs.declared.Value.TheVariants.{Number, Invalid}
+use Rattle.cpus.specs.facts.Told.{CpuReading}
 use Rattle.cpus.specs.declared.CpuNumbers.{CpuNumbers}
 use Rattle.cpus.specs.answers.Cell.{value_in, cell_in, is_number, reg_in, phandle_in, cpu_cell}
 use Rattle.cpus.specs.declared.CpuNumbers.TheVariants as wanted
@@ -23,13 +21,13 @@ abbrev pub cpu_reading : (number second value : ℕ) → CpuReading
 cpu_reading number second value = record { number = number; second = second; value = value }
 
 -- a value's number, and the second place of its repeat; or the rule that is broken where it is not there, told of a property
-abbrev pub number_or : ℕ → Lookup → ℕ → Value → CpuReading
-number_or rule found repeated (Number n) = cpu_reading 0 repeated n
-number_or rule found repeated Invalid = cpu_reading rule (record_of found) 0
+abbrev pub number_or : ℕ → Option Found → ℕ → Option ℕ → CpuReading
+number_or rule found repeated (Some n) = cpu_reading 0 repeated n
+number_or rule found repeated None = cpu_reading rule (record_of found) 0
 
 -- What a cpu record alone breaks, 0 where nothing, the second place of what is told of it, and its number, from where its properties stand.
 -- A repeated `reg` is told of no property, a repeated phandle of the `phandle`.
-unfoldable pub reading_from : CpuNumbers → List ℕ → (Key → Lookup) → CpuReading
+unfoldable pub reading_from : CpuNumbers → List ℕ → (Key → Option Found) → CpuReading
 reading_from (wanted.Regs cells width) pool at =
     cond (is_number (cell_in pool (at DeviceType)) cpu_cell)
     (number_or 12 (at Reg) no_property (reg_in width (value_in pool cells (at Reg))))

@@ -2,7 +2,7 @@
 -- What the reader answers, and what it leaves in the row buffer.
 use Rattle.std.specs.Prelude.{cond, List, ℕ, ◌*◌, ltb, eqb, length}
 use Rattle.laws.specs.facts.Limits.{no_property}
-use Rattle.laws.specs.declared.Fault.{Fault}
+use Rattle.laws.specs.facts.Told.{Fault}
 use Rattle.laws.specs.answers.Fault.{told, or_else}
 use Rattle.layout.specs.facts.Row.{row_size}
 use Rattle.affinity.specs.facts.List.{no_hash}
@@ -11,7 +11,7 @@ use Rattle.tables.specs.facts.Board.{Board}
 use Rattle.cpus.specs.answers.Check.{cpu_count}
 use Rattle.rows.specs.answers.Slots.{board_hash}
 use Rattle.rows.specs.answers.Write.{Source, written, source_of}
-use Rattle.demands.specs.declared.BoardAnswer.{BoardAnswer}
+use Rattle.demands.specs.facts.Told.{BoardAnswer}
 use Rattle.demands.specs.answers.Survey.{survey_fault}
 
 -- rule 27

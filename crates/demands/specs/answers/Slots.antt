@@ -1,14 +1,14 @@
 -- SPDX-License-Identifier: BSD-2-Clause OR GPL-2.0-or-later
 -- What the reader with a table of slots answers, and what it leaves in the row buffer and in the table.
 use Rattle.std.specs.Prelude.{cond, List, ℕ, eqb, length}
-use Rattle.laws.specs.declared.Fault.{Fault}
+use Rattle.laws.specs.facts.Told.{Fault}
 use Rattle.laws.specs.answers.Fault.{told, or_else}
 use Rattle.slot_table.specs.answers.Table.{entries_fault, filled}
 use Rattle.tables.specs.facts.Board.{Board}
 use Rattle.cpus.specs.answers.Check.{cpu_count}
 use Rattle.rows.specs.answers.Slots.{board_hash}
 use Rattle.rows.specs.answers.Write.{source_of}
-use Rattle.demands.specs.declared.BoardAnswer.{BoardAnswer}
+use Rattle.demands.specs.facts.Told.{BoardAnswer}
 use Rattle.demands.specs.facts.Reading.{rows_in}
 use Rattle.demands.specs.answers.Answer.{board_fault, answer_by, rows_by}
 

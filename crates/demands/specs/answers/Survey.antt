@@ -1,6 +1,6 @@
 -- SPDX-License-Identifier: BSD-2-Clause OR GPL-2.0-or-later
 -- The first of rules 1 to 26, 36 and 37 that is broken.
-use Rattle.laws.specs.declared.Fault.{Fault}
+use Rattle.laws.specs.facts.Told.{Fault}
 use Rattle.laws.specs.answers.Fault.{or_else}
 use Rattle.tables.specs.facts.Board.{Board}
 use Rattle.wellformed.specs.answers.Check.{table_fault}

@@ -13,7 +13,7 @@ use Rattle.cpus.specs.facts.Rules.{CpuRule, CpusNode, SoundCpus}
 use Rattle.cpumap.specs.facts.Map.{Map}
 use Rattle.rows.specs.facts.BoardHash.{BoardHash}
 use Rattle.rows.specs.facts.Fits.{Fits}
-use Rattle.demands.specs.declared.BoardAnswer.{BoardAnswer}
+use Rattle.demands.specs.facts.Told.{BoardAnswer}
 use Rattle.demands.specs.facts.Rules.{Breaks, BreaksUnsplit, Told, MapBroken, Room}
 
 -- the rows that a buffer holds

@@ -6,7 +6,7 @@ use Rattle.slot_table.specs.facts.SlotTable.{SlotTableRule, SlotTable, RowsFound
 use Rattle.affinity.specs.declared.Hash.{Hash}
 use Rattle.tables.specs.facts.Board.{Board, riscv, HasMpidrs}
 use Rattle.rows.specs.facts.BoardHash.{BoardHash}
-use Rattle.demands.specs.declared.BoardAnswer.{BoardAnswer}
+use Rattle.demands.specs.facts.Told.{BoardAnswer}
 use Rattle.demands.specs.facts.Rules.{Breaks}
 use Rattle.demands.specs.facts.Reading.{Refused, Demands}
 

@@ -1,20 +1,18 @@
 -- SPDX-License-Identifier: BSD-2-Clause OR GPL-2.0-or-later
 -- What the reader of a blob answers, and what it leaves in the lent tables.
-use Rattle.std.specs.Prelude.{cond, List, ℕ, ◌*◌, ltb, eqb, length}
+use Rattle.std.specs.Prelude.{cond, List, ℕ, ◌*◌, ltb, eqb, length, Ok, Err, Result}
 use Rattle.laws.specs.answers.Listed.{laid_over}
 use Rattle.tokens.specs.facts.Token.{Blocks}
 use Rattle.tokens.specs.answers.Read.{behind_zero}
 use Rattle.header.specs.facts.Header.{blocks_of}
 use Rattle.header.specs.answers.Fault.{header_fault, blocks_fault}
 use Rattle.stream.specs.declared.Walk.{Walk}
-use Rattle.stream.specs.declared.Surveyed.{Surveyed}
-use Rattle.stream.specs.declared.Surveyed.TheVariants.{Whole, Broken}
 use Rattle.stream.specs.answers.Walk.{walk}
-use Rattle.flat.specs.declared.BlobAnswer.{BlobAnswer}
+use Rattle.flat.specs.facts.Told.{BlobAnswer}
 use Rattle.flat.specs.answers.Fill.{Filled, filled_from}
 
 -- the walk over the structure block
-abbrev pub walk_in : Blocks → Surveyed
+abbrev pub walk_in : Blocks → Result Walk ℕ
 walk_in b = walk b.structure (behind_zero b.strings) b.start
 
 -- a refusal: every other result is 0
@@ -29,9 +27,9 @@ count_answer node_room prop_room w =
     (cond (ltb prop_room (5 * w.props)) (blob_refused 35 0) (record { number = 0; place = 0; nodes = w.nodes; props = w.props })))
     (blob_refused 34 0)
 
-abbrev pub walk_answer : ℕ → ℕ → Surveyed → BlobAnswer
-walk_answer node_room prop_room (Broken p) = blob_refused 33 p
-walk_answer node_room prop_room (Whole w) = count_answer node_room prop_room w
+abbrev pub walk_answer : ℕ → ℕ → Result Walk ℕ → BlobAnswer
+walk_answer node_room prop_room (Err p) = blob_refused 33 p
+walk_answer node_room prop_room (Ok w) = count_answer node_room prop_room w
 
 unfoldable pub blob_answer : List ℕ → ℕ → ℕ → BlobAnswer
 blob_answer blob node_room prop_room =
@@ -40,9 +38,9 @@ blob_answer blob node_room prop_room =
     (blob_refused 31 0)
 
 -- where the last child of the root named `cpus` begins
-abbrev pub cpus_at : Surveyed → ℕ
-cpus_at (Broken p) = 0
-cpus_at (Whole w) = w.first
+abbrev pub cpus_at : Result Walk ℕ → ℕ
+cpus_at (Err p) = 0
+cpus_at (Ok w) = w.first
 
 -- the records of that child and of all below it
 abbrev pub filled_in : Blocks → Filled

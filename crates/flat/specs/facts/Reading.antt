@@ -5,7 +5,7 @@ use Rattle.laws.specs.facts.Limits.{no_parent}
 use Rattle.header.specs.facts.Header.{blocks_of}
 use Rattle.stream.specs.facts.Tree.{Nodes, node_words, prop_words}
 use Rattle.stream.specs.facts.Stream.{Holds}
-use Rattle.flat.specs.declared.BlobAnswer.{BlobAnswer}
+use Rattle.flat.specs.facts.Told.{BlobAnswer}
 use Rattle.flat.specs.facts.Rules.{Cpus, BlobRule, BlobTold}
 use Rattle.flat.specs.facts.Tables.{board_of, OnlyLeft}
 

@@ -1,7 +1,7 @@
 -- SPDX-License-Identifier: BSD-2-Clause OR GPL-2.0-or-later
 -- Members of a list: laid at the front of a buffer, and what is told of one of them.
 use Rattle.std.specs.Prelude.{List, ◌++◌, cond, ℕ, length, take, drop, get_or, eqb}
-use Rattle.laws.specs.declared.Fault.{Fault}
+use Rattle.laws.specs.facts.Told.{Fault}
 use Rattle.laws.specs.answers.Fault.{told}
 
 -- a buffer with a list at its front, and behind it what the buffer held; what does not fit is cut off

@@ -1,28 +1,29 @@
 -- SPDX-License-Identifier: BSD-2-Clause OR GPL-2.0-or-later
 -- The leaves of the map: rules 18 to 26 over all records.
-use Rattle.std.specs.Prelude.{List, map, Bool, false, cond, ℕ, ◌*◌, take, length, eqb}
-use Rattle.laws.specs.declared.Fault.{Fault}
+use Rattle.tables.specs.declared.Found.{Found}
+use Rattle.std.specs.Prelude.{List, map, Bool, false, cond, ℕ, ◌*◌, take, length, eqb, Option}
+use Rattle.laws.specs.facts.Told.{Fault}
 use Rattle.laws.specs.facts.Limits.{max_nodes, max_cpus}
 use Rattle.laws.specs.answers.Search.{any_below, list_below}
 use Rattle.laws.specs.answers.Fault.{or_else, first_fault, with_second, or_number}
 use Rattle.laws.specs.answers.Listed.{laid_over, fault_of_member}
-use Rattle.tables.specs.declared.Lookup.{Lookup}
+use Rattle.tables.specs.declared.Tables.{Tables}
 use Rattle.tables.specs.facts.Board.{Board, node_count}
 use Rattle.cpus.specs.answers.Check.{phandle_list}
 use Rattle.cpumap.specs.answers.Find.{map_of}
-use Rattle.leaves.specs.declared.RecordCheck.{RecordCheck}
-use Rattle.leaves.specs.declared.TreeScan.{TreeScan}
+use Rattle.leaves.specs.facts.Told.{RecordCheck}
+use Rattle.leaves.specs.facts.Told.{TreeScan}
 use Rattle.leaves.specs.answers.Check.{cpu_property, indexed_cpu, record_check}
 
 -- The tables, where each record's `cpu` stands, the map's record and the cpu records' phandles.
 pub record Tree : Type 0 where
   pub nodes : List ℕ
-  pub at : ℕ → Lookup
+  pub at : ℕ → Option Found
   pub pool : List ℕ
   pub root : ℕ
   pub phandles : List ℕ
 
-abbrev pub tree : List ℕ → (ℕ → Lookup) → List ℕ → ℕ → List ℕ → Tree
+abbrev pub tree : List ℕ → (ℕ → Option Found) → List ℕ → ℕ → List ℕ → Tree
 tree nodes at pool root phandles = record { nodes = nodes; at = at; pool = pool; root = root; phandles = phandles }
 
 abbrev pub check : Tree → ℕ → RecordCheck
@@ -31,6 +32,9 @@ check t i = record_check t.nodes t.at t.pool t.root t.phandles i
 -- the tree of lent slices: their first 1,024 node records and 256 phandles, and `cpu` by an index of properties
 abbrev pub lent_tree : (nodes props pool index : List ℕ) → ℕ → List ℕ → Tree
 lent_tree nodes props pool index root phandles = tree (take (3 * max_nodes) nodes) (indexed_cpu props index) pool root (take max_cpus phandles)
+
+abbrev pub tree_in : Tables → List ℕ → ℕ → List ℕ → Tree
+tree_in t index root phandles = lent_tree t.nodes.now t.props.now t.pool.now index root phandles
 
 -- whether record i is a leaf that names a cpu, and which
 abbrev pub is_leaf : Tree → ℕ → Bool

@@ -3,8 +3,8 @@
 use Rattle.std.specs.Prelude.{Bool, cond, List, ◌≡◌, ℕ, eqb, get_or, length}
 use Rattle.laws.specs.facts.Limits.{max_cpus}
 use Rattle.laws.specs.answers.Fault.{or_number}
-use Rattle.leaves.specs.declared.RecordCheck.{RecordCheck}
-use Rattle.leaves.specs.declared.TreeScan.{TreeScan}
+use Rattle.leaves.specs.facts.Told.{RecordCheck}
+use Rattle.leaves.specs.facts.Told.{TreeScan}
 use Rattle.leaves.specs.answers.Scan.{Tree, named_below, record_fault, scanned, passed, leaves_over, named_over}
 
 -- whether a table of marks has cpu k marked

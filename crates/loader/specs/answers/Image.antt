@@ -5,9 +5,9 @@ use Rattle.laws.specs.answers.Fault.{plain}
 use Rattle.wire.specs.facts.Bytes.{word_size, in_bytes, words_in}
 use Rattle.tables.specs.facts.Board.{Board, board}
 use Rattle.header.specs.facts.Header.{blocks_of}
-use Rattle.flat.specs.declared.BlobAnswer.{BlobAnswer}
+use Rattle.flat.specs.facts.Told.{BlobAnswer}
 use Rattle.flat.specs.answers.Answer.{blob_answer, filled_in}
-use Rattle.demands.specs.declared.BoardAnswer.{BoardAnswer}
+use Rattle.demands.specs.facts.Told.{BoardAnswer}
 use Rattle.demands.specs.answers.Answer.{refused_with, answer_of, rows_after}
 use Rattle.loader.specs.facts.Image.{node_room, prop_room}
 

@@ -2,7 +2,7 @@
 -- What the call on a list of MPIDRs in bytes answers.
 use Rattle.std.specs.Prelude.{cond, List, ℕ, ◌%◌, eqb, length}
 use Rattle.wire.specs.facts.Bytes.{number_size, numbers_in}
-use Rattle.affinity.specs.declared.ListSlot.{ListSlot}
+use Rattle.affinity.specs.facts.Told.{ListSlot}
 use Rattle.affinity.specs.answers.List.{slot_answer}
 
 -- 28 where the bytes are no multiple of eight, else what the library answers of the MPIDRs that they hold

@@ -7,7 +7,7 @@ use Rattle.affinity.specs.facts.List.{no_hash}
 use Rattle.stream.specs.facts.Tree.{Nodes}
 use Rattle.flat.specs.facts.Rules.{Cpus, BlobRule, BlobTold}
 use Rattle.flat.specs.facts.Tables.{board_of}
-use Rattle.demands.specs.declared.BoardAnswer.{BoardAnswer}
+use Rattle.demands.specs.facts.Told.{BoardAnswer}
 use Rattle.demands.specs.facts.Reading.{Demands}
 
 -- the words of its tables: 1,024 nodes and 1,024 properties of the `/cpus` subtree

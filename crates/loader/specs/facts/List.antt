@@ -3,7 +3,7 @@
 use Rattle.std.specs.Prelude.{◌≡◌, List, ℕ, ◌%◌, length}
 use Rattle.laws.specs.facts.First.{First}
 use Rattle.wire.specs.facts.Bytes.{number_size, numbers_in}
-use Rattle.affinity.specs.declared.ListSlot.{ListSlot}
+use Rattle.affinity.specs.facts.Told.{ListSlot}
 use Rattle.affinity.specs.facts.List.{list_stage, ListRule, SlotRule, SlotAccepted}
 
 -- rules 28 to 30 of one MPIDR asked in a list of bytes, eight for each MPIDR: those of the list, and 28 where the bytes are no multiple of eight

@@ -1,8 +1,8 @@
 -- SPDX-License-Identifier: BSD-2-Clause OR GPL-2.0-or-later
 -- `find_property` finds the lowest property of that name: none of the `count - left` records tested is one. Assumes nothing.
+use Rattle.std.specs.Prelude.{Some}
 use mathlib.Core.Path.{sym, ap, ◌∙◌}
 use native.Mathlib.Omega.{arith}
-use Rattle.tables.specs.declared.Lookup.TheVariants.{At}
 use Rattle.lookup.proofs.CodeLookup.{found_at_lem, found_none, none_more, none_yet}
 use Rattle.lookup.proofs.FindsLaws.{lookup_meets}
 use Rattle.lookup.proofs.find_property.Goals as goal
@@ -14,7 +14,7 @@ pub returns-then-is_property : goal.returns-then-is_property
 returns-then-is_property c =
     let a = c.args in
     let found =
-    ap At c.found_at.ensures
+    ap Some c.found_at.ensures
     ∙ found_at_lem a.props.now a.pool.now a.node a.key.now _ c.loop-left.invariant.1 (sym c.is_property.ensures ∙ c.if-is_property.true) (omega arith) in
     let meets = lookup_meets a.props.now a.pool.now a.node a.key.now found in
     record { answer = meets.0; finds = meets.1 }

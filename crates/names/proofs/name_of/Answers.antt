@@ -6,17 +6,17 @@ use Rattle.names.proofs.AfterLaws.{after_name, after_none}
 use Rattle.names.proofs.NameMeans.{name_says}
 use Rattle.names.proofs.name_of.Goals as goal
 
-pub returns-in-Decimal : goal.returns-in-Decimal
-returns-in-Decimal c = let p = name_says (after_name _ Kind.socket _ (sym c.number_after.ensures ∙ c.in-Decimal.is)) in record { answer = p.0; says = p.1 }
+pub returns-in-Some : goal.returns-in-Some
+returns-in-Some c = let p = name_says (after_name _ Kind.socket _ (sym c.number_after.ensures ∙ c.in-Some.is)) in record { answer = p.0; says = p.1 }
 
-pub returns-in-Decimal-number_after : goal.returns-in-Decimal-number_after
-returns-in-Decimal-number_after c = let p = name_says (after_name _ Kind.cluster _ (sym c.number_after-2.ensures ∙ c.in-Decimal-number_after.is)) in record { answer = p.0; says = p.1 }
+pub returns-in-Some-number_after : goal.returns-in-Some-number_after
+returns-in-Some-number_after c = let p = name_says (after_name _ Kind.cluster _ (sym c.number_after-2.ensures ∙ c.in-Some-number_after.is)) in record { answer = p.0; says = p.1 }
 
-pub returns-in-Decimal-number_after-2 : goal.returns-in-Decimal-number_after-2
-returns-in-Decimal-number_after-2 c = let p = name_says (after_name _ Kind.core _ (sym c.number_after-3.ensures ∙ c.in-Decimal-number_after-2.is)) in record { answer = p.0; says = p.1 }
+pub returns-in-Some-number_after-2 : goal.returns-in-Some-number_after-2
+returns-in-Some-number_after-2 c = let p = name_says (after_name _ Kind.core _ (sym c.number_after-3.ensures ∙ c.in-Some-number_after-2.is)) in record { answer = p.0; says = p.1 }
 
-pub returns-in-Decimal-number_after-3 : goal.returns-in-Decimal-number_after-3
-returns-in-Decimal-number_after-3 c = let p = name_says (after_name _ Kind.thread _ (sym c.number_after-4.ensures ∙ c.in-Decimal-number_after-3.is)) in record { answer = p.0; says = p.1 }
+pub returns-in-Some-number_after-3 : goal.returns-in-Some-number_after-3
+returns-in-Some-number_after-3 c = let p = name_says (after_name _ Kind.thread _ (sym c.number_after-4.ensures ∙ c.in-Some-number_after-3.is)) in record { answer = p.0; says = p.1 }
 
 pub returns : goal.returns
 returns c =

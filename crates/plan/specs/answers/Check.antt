@@ -2,7 +2,7 @@
 -- Which of rules 28, 29 and 40 is told of a plan.
 use Rattle.std.specs.Prelude.{Bool, true, false, cond, List, ℕ, zero, suc, ◌^◌, eqb, ltb, leb, length, get_or}
 use Rattle.std.specs.Int.Bits.{bit_and, bit_or}
-use Rattle.laws.specs.declared.Fault.{Fault}
+use Rattle.laws.specs.facts.Told.{Fault}
 use Rattle.laws.specs.answers.Fault.{told, or_else}
 use Rattle.laws.specs.answers.Search.{any_below}
 use Rattle.affinity.specs.answers.List.{list_fault}

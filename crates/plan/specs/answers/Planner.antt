@@ -6,7 +6,7 @@ use Rattle.laws.specs.answers.Search.{list_below}
 use Rattle.laws.specs.answers.Listed.{laid_over}
 use Rattle.affinity.specs.answers.Mask.{mask_of}
 use Rattle.affinity.specs.answers.List.{list_fault}
-use Rattle.plan.specs.declared.Plan.{Plan}
+use Rattle.plan.specs.facts.Told.{Plan}
 use Rattle.plan.specs.answers.Check.{clashes}
 
 -- the bits to keep without bit k, if it is one of them and the others separate the list

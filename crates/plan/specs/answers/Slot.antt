@@ -4,7 +4,7 @@ use Rattle.std.specs.Prelude.{List, ℕ, length, get_or}
 use Rattle.laws.specs.facts.Digit.{digit}
 use Rattle.laws.specs.answers.FromDigits.{from_digits}
 use Rattle.laws.specs.answers.Search.{is_among}
-use Rattle.affinity.specs.declared.ListSlot.{ListSlot}
+use Rattle.affinity.specs.facts.Told.{ListSlot}
 use Rattle.affinity.specs.answers.List.{slot_behind}
 use Rattle.plan.specs.answers.Check.{plan_fault}
 

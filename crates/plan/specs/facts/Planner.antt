@@ -7,7 +7,7 @@ use Rattle.affinity.specs.declared.Hash.{Hash}
 use Rattle.affinity.specs.facts.Hash.{IsHash}
 use Rattle.affinity.specs.facts.List.{ListRule, list_stage}
 use Rattle.affinity.specs.facts.Mask.{Differ}
-use Rattle.plan.specs.declared.Plan.{Plan}
+use Rattle.plan.specs.facts.Told.{Plan}
 use Rattle.plan.specs.facts.Plan.{Separates, SeparatedAt, drop_at}
 use Rattle.plan.specs.facts.Rules.{IsPlan}
 

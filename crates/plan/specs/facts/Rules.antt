@@ -1,11 +1,11 @@
 -- SPDX-License-Identifier: BSD-2-Clause OR GPL-2.0-or-later
 -- Rules 28, 29, 40 and 30 of a plan, and what is demanded of the answers about it (02, W8).
 use Rattle.std.specs.Prelude.{List, [], ◌∷◌, ◌↔◌, ◌≡◌, ℕ}
-use Rattle.laws.specs.declared.Fault.{Fault}
+use Rattle.laws.specs.facts.Told.{Fault}
 use Rattle.laws.specs.facts.First.{stage_in, First}
 use Rattle.laws.specs.facts.Limits.{no_property}
 use Rattle.laws.specs.facts.Listing.{Member}
-use Rattle.affinity.specs.declared.ListSlot.{ListSlot}
+use Rattle.affinity.specs.facts.Told.{ListSlot}
 use Rattle.affinity.specs.facts.List.{ListRule, SlotRule}
 use Rattle.plan.specs.facts.Plan.{Positions, SeparatedAt, PlanSlot}
 

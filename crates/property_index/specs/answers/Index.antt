@@ -1,9 +1,8 @@
 -- SPDX-License-Identifier: BSD-2-Clause OR GPL-2.0-or-later
 -- The index of properties: at four times a record's number and a key's number, one more than the number of the property, or 0.
-use Rattle.std.specs.Prelude.{cond, List, ◌≡◌, ℕ, ◌+◌, ◌*◌, ◌<◌, zero, suc, min, eqb, ltb, get_or, set}
+use Rattle.tables.specs.declared.Found.{Found}
+use Rattle.std.specs.Prelude.{cond, List, ◌≡◌, ℕ, ◌+◌, ◌*◌, ◌<◌, zero, suc, min, eqb, ltb, get_or, set, Some, None, Option}
 use Rattle.laws.specs.facts.Limits.{max_nodes, max_properties}
-use Rattle.tables.specs.declared.Lookup.{Lookup}
-use Rattle.tables.specs.declared.Lookup.TheVariants.{At, Missing}
 use Rattle.tables.specs.facts.Binding.{reg_key, cpu_key, phandle_key, device_type_key}
 use Rattle.tables.specs.facts.Property.{found_at}
 use Rattle.tables.specs.answers.Lookup.{lookup}
@@ -40,15 +39,15 @@ abbrev pub indexed : List ℕ → List ℕ → List ℕ → List ℕ
 indexed table props pool = indexed_below table props pool (min (prop_count props) max_properties)
 
 -- a word of the table as the answer of a lookup
-abbrev pub lookup_in : List ℕ → ℕ → Lookup
-lookup_in props zero = Missing
-lookup_in props (suc k) = At (found_at props k)
+abbrev pub lookup_in : List ℕ → ℕ → Option Found
+lookup_in props zero = None
+lookup_in props (suc k) = Some (found_at props k)
 
 -- the property that is a key of record i, by an index of properties
-unfoldable pub indexed_at : (props table : List ℕ) → ℕ → Key → Lookup
+unfoldable pub indexed_at : (props table : List ℕ) → ℕ → Key → Option Found
 indexed_at props table i key = lookup_in props (get_or table (4 * i + key_number key) 0)
 
 -- an index of a property table answers as the lookup does, of every record that rule 2 allows
-abbrev pub AsLookup : (props table : List ℕ) → ℕ → Key → Lookup → Type 0
+abbrev pub AsLookup : (props table : List ℕ) → ℕ → Key → Option Found → Type 0
 AsLookup props table i key answer =
     (width : ℕ) (nodes pool : List ℕ) → IndexOf (board width nodes props pool) table → i < max_nodes → answer ≡ lookup props pool i (key_name key)

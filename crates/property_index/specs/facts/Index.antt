@@ -1,9 +1,9 @@
 -- SPDX-License-Identifier: BSD-2-Clause OR GPL-2.0-or-later
 -- An index of properties, and what it finds: what a lookup does (02, W4).
-use Rattle.std.specs.Prelude.{◌≡◌, List, ℕ, suc, ◌+◌, ◌*◌, ◌<◌, ◌≤◌, get_or, replicate}
+use Rattle.tables.specs.declared.Found.{Found}
+use Rattle.std.specs.Prelude.{◌≡◌, List, ℕ, suc, ◌+◌, ◌*◌, ◌<◌, ◌≤◌, get_or, replicate, Option}
 use Rattle.laws.specs.facts.Limits.{max_nodes, max_properties}
 use Rattle.laws.specs.facts.Lowest.{Lowest}
-use Rattle.tables.specs.declared.Lookup.{Lookup}
 use Rattle.tables.specs.facts.Board.{Board, board, prop_count}
 use Rattle.tables.specs.facts.Property.{Property}
 use Rattle.lookup.specs.facts.Finds.{Finds}
@@ -27,7 +27,7 @@ Indexes before props pool after =
     (width : ℕ) (nodes : List ℕ) → IndexOf (board width nodes props pool) after
 
 -- what is answered by an index of a property table is what a lookup finds, of every record that rule 2 allows
-abbrev pub FindsBy : (props table : List ℕ) → ℕ → Key → Lookup → Type 0
+abbrev pub FindsBy : (props table : List ℕ) → ℕ → Key → Option Found → Type 0
 FindsBy props table i key answer =
     (width : ℕ) (nodes pool : List ℕ) →
     IndexOf (board width nodes props pool) table →

@@ -4,9 +4,11 @@ use Rattle.std.specs.Prelude.{List, [], ◌++◌, cond, ℕ, zero, suc, ◌*◌,
 use Rattle.layout.specs.declared.Row.{Row}
 use Rattle.layout.specs.answers.Words.{row_words}
 use Rattle.layout.specs.facts.Row.{row_size}
+use Rattle.tables.specs.declared.Tables.{Tables}
 use Rattle.tables.specs.facts.Board.{Board}
 use Rattle.cpus.specs.answers.Check.{cpu_list, reg_list}
 use Rattle.leaves.specs.answers.Scan.{leaves_of, named_of}
+use Rattle.rows.specs.declared.Lists.{Lists}
 use Rattle.rows.specs.declared.NamedCpu.{NamedCpu}
 use Rattle.rows.specs.declared.BoardSlots.{BoardSlots}
 use Rattle.rows.specs.answers.Leaf.{row_of}
@@ -26,6 +28,10 @@ pub record Source : Type 0 where
 abbrev pub source : (nodes pool cpus regs leaves named : List ℕ) → BoardSlots → Source
 source nodes pool cpus regs leaves named slots =
     record { nodes = nodes; pool = pool; cpus = cpus; regs = regs; leaves = leaves; named = named; slots = slots }
+
+abbrev pub source_in : Tables → Lists → BoardSlots → Source
+source_in t lists slots =
+    source t.nodes.now t.pool.now lists.cpus.now lists.regs.now lists.leaves.now lists.named.now slots
 
 -- the cpu at an index of the cpu records and their `reg`s, with its slot
 abbrev pub named_cpu : List ℕ → List ℕ → ℕ → BoardSlots → NamedCpu

@@ -1,6 +1,6 @@
 -- SPDX-License-Identifier: BSD-2-Clause OR GPL-2.0-or-later
 -- The walk over a structure block that checks the stream and counts the records below `cpus`.
-use Rattle.std.specs.Prelude.{true, false, cond, List, ℕ, zero, suc, ◌+◌, ◌-◌, ◌^◌, ◌≤◌, ltb, eqb, length}
+use Rattle.std.specs.Prelude.{true, false, cond, List, ℕ, zero, suc, ◌+◌, ◌-◌, ◌^◌, ◌≤◌, ltb, eqb, length, Ok, Err, Result}
 use Rattle.tables.specs.facts.Binding.{cpus_word}
 use Rattle.tables.specs.answers.Range.{range_is}
 use Rattle.tokens.specs.declared.TokenRead.{TokenRead}
@@ -9,8 +9,6 @@ use Rattle.tokens.specs.answers.Read.{token_read}
 use Rattle.stream.specs.declared.Walk.{Walk}
 use Rattle.stream.specs.declared.Next.{Next}
 use Rattle.stream.specs.declared.Next.TheVariants.{On, Ends, Breaks}
-use Rattle.stream.specs.declared.Surveyed.{Surveyed}
-use Rattle.stream.specs.declared.Surveyed.TheVariants.{Whole, Broken}
 
 -- before the first token
 abbrev pub walk_start : ℕ → Walk
@@ -120,20 +118,20 @@ step_of block w Nop = On (passed w)
 step_of block w End = end_step w (length block)
 step_of block w Unsound = Breaks w.at
 
-abbrev pub onward : Next → (Walk → Surveyed) → Surveyed
+abbrev pub onward : Next → (Walk → Result Walk ℕ) → Result Walk ℕ
 onward (On w) f = f w
-onward (Ends w) f = Whole w
-onward (Breaks p) f = Broken p
+onward (Ends w) f = Ok w
+onward (Breaks p) f = Err p
 
 module _ (block : List ℕ) (named : ℕ) where
   -- at most k tokens
-  unfoldable pub walk_from : ℕ → Walk → Surveyed
-  walk_from zero w = Broken (length block)
+  unfoldable pub walk_from : ℕ → Walk → Result Walk ℕ
+  walk_from zero w = Err (length block)
   walk_from (suc k) w =
-      cond (ltb w.at (length block)) (onward (step_of block w (token_read block named w.at)) (walk_from k)) (Broken (length block))
+      cond (ltb w.at (length block)) (onward (step_of block w (token_read block named w.at)) (walk_from k)) (Err (length block))
 
   -- from a place of the block on
-  abbrev pub walk : ℕ → Surveyed
+  abbrev pub walk : ℕ → Result Walk ℕ
   walk start = walk_from (length block - start) (walk_start start)
 
 -- numbers that stay below the place of the walk, so that none of them wraps
@@ -147,6 +145,6 @@ pub record Small (w : Walk) : Type 0 where
   pub props : w.props ≤ w.at
 
 -- what a walk finds stands in the block, and its numbers are small
-abbrev pub Bounded : ℕ → Surveyed → Type 0
-Bounded end (Whole w) = Small w × (w.at ≤ end)
-Bounded end (Broken p) = p ≤ end
+abbrev pub Bounded : ℕ → Result Walk ℕ → Type 0
+Bounded end (Ok w) = Small w × (w.at ≤ end)
+Bounded end (Err p) = p ≤ end

@@ -2,7 +2,7 @@
 -- The answer of the reading calls, and what they leave in the lent parts.
 use Rattle.std.specs.Prelude.{List, ℕ, length}
 use Rattle.tables.specs.facts.Board.{Board}
-use Rattle.demands.specs.declared.BoardAnswer.{BoardAnswer}
+use Rattle.demands.specs.facts.Told.{BoardAnswer}
 use Rattle.demands.specs.answers.Answer.{rows_after}
 use Rattle.demands.specs.answers.Slots.{slots_rows, slots_table}
 use Rattle.sunderwath.specs.answers.Answer.{answer_size, answer_words, unless_short}

@@ -3,8 +3,8 @@
 use Rattle.std.specs.Prelude.{List, [], ◌∷◌, ℕ}
 use Rattle.laws.specs.facts.Limits.{no_property}
 use Rattle.wire.specs.facts.Bytes.{word_size, in_bytes}
-use Rattle.affinity.specs.declared.ListSlot.{ListSlot}
-use Rattle.demands.specs.declared.BoardAnswer.{BoardAnswer}
+use Rattle.affinity.specs.facts.Told.{ListSlot}
+use Rattle.demands.specs.facts.Told.{BoardAnswer}
 use Rattle.loader.specs.answers.Image.{image_rows}
 use Rattle.sunderwath.specs.answers.Answer.{unless_short}
 

@@ -1,9 +1,9 @@
 -- SPDX-License-Identifier: BSD-2-Clause OR GPL-2.0-or-later
 -- The answers of the three calls on plans.
 use Rattle.std.specs.Prelude.{List, [], ◌∷◌, ℕ}
-use Rattle.laws.specs.declared.Fault.{Fault}
-use Rattle.affinity.specs.declared.ListSlot.{ListSlot}
-use Rattle.plan.specs.declared.Plan.{Plan}
+use Rattle.laws.specs.facts.Told.{Fault}
+use Rattle.affinity.specs.facts.Told.{ListSlot}
+use Rattle.plan.specs.facts.Told.{Plan}
 
 abbrev pub plan_check_size : ℕ
 plan_check_size = 2

@@ -1,9 +1,9 @@
 -- SPDX-License-Identifier: BSD-2-Clause OR GPL-2.0-or-later
 -- The answers of the calls on tables.
-use Rattle.std.specs.Prelude.{◌≡◌, List, ℕ, min}
+use Rattle.tables.specs.declared.Found.{Found}
+use Rattle.std.specs.Prelude.{◌≡◌, List, ℕ, min, Option}
 use Rattle.laws.specs.facts.Limits.{no_property}
 use Rattle.affinity.specs.facts.List.{no_hash}
-use Rattle.tables.specs.declared.Lookup.{Lookup}
 use Rattle.tables.specs.facts.Board.{Board}
 use Rattle.tables.specs.answers.Lookup.{record_of}
 use Rattle.lookup.specs.facts.Finds.{FindsIn}
@@ -15,9 +15,9 @@ abbrev pub check_words : Board → List ℕ
 check_words b = answer_words (table_fault b).number (table_fault b).place no_property 0 no_hash
 
 -- a record number as a word; 0xFFFFFFFF where there is none, or where it is no smaller
-abbrev pub found_word : Lookup → ℕ
+abbrev pub found_word : Option Found → ℕ
 found_word found = min (record_of found) no_property
 
 -- a word is that of an answer that finds the property
 abbrev pub FindsWord : List ℕ → List ℕ → ℕ → List ℕ → ℕ → Type 0
-FindsWord props pool i key word = (answer : Lookup) × FindsIn props pool i key answer × (word ≡ found_word answer)
+FindsWord props pool i key word = (answer : Option Found) × FindsIn props pool i key answer × (word ≡ found_word answer)

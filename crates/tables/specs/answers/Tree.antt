@@ -1,8 +1,6 @@
 -- SPDX-License-Identifier: BSD-2-Clause OR GPL-2.0-or-later
 -- Parents and ancestors, as tests; a value of each record made from its parent's.
-use Rattle.std.specs.Prelude.{Bool, false, cond, true, List, ℕ, zero, suc, ltb, eqb}
-use Rattle.tables.specs.declared.Parent.{Parent}
-use Rattle.tables.specs.declared.Parent.TheVariants.{Record, Top}
+use Rattle.std.specs.Prelude.{Bool, false, cond, true, List, ℕ, zero, suc, ltb, eqb, Some, None, Option}
 use Rattle.tables.specs.facts.Board.{node_count, parent_word}
 
 -- whether i is a child of p
@@ -13,8 +11,8 @@ is_child nodes p i = cond (ltb i (node_count nodes)) (cond (eqb (parent_word nod
 unfoldable pub has_parent : List ℕ → ℕ → Bool
 has_parent nodes i = cond (ltb i (node_count nodes)) (ltb (parent_word nodes i) i) false
 
-unfoldable pub parent_of : List ℕ → ℕ → Parent
-parent_of nodes i = cond (has_parent nodes i) (Record (parent_word nodes i)) Top
+unfoldable pub parent_of : List ℕ → ℕ → Option ℕ
+parent_of nodes i = cond (has_parent nodes i) (Some (parent_word nodes i)) None
 
 -- A value of each record: `top` where it has no parent, and else made by `step` of the record and its parent's value. At most k parents are taken.
 unfoldable pub climb_in : {A : Type 0} → List ℕ → A → (ℕ → A → A) → ℕ → ℕ → A

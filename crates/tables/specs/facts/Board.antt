@@ -1,6 +1,7 @@
 -- SPDX-License-Identifier: BSD-2-Clause OR GPL-2.0-or-later
 -- A board's tables (01, "The tables"): the width, the words of the node and property records, the bytes of the pool.
 use Rattle.std.specs.Prelude.{◌≡◌, ◌⊎◌, List, ℕ, ◌^◌, ◌<◌, ◌+◌, ◌≤◌, ◌/◌, ◌*◌, get_or, length, take, drop}
+use Rattle.tables.specs.declared.Tables.{Tables}
 
 pub record Board : Type 0 where
   pub width : ℕ
@@ -29,6 +30,10 @@ HasMpidrs b = b.width ≡ riscv → ⊥
 -- the board that four slices hold
 abbrev pub board : ℕ → List ℕ → List ℕ → List ℕ → Board
 board width nodes props pool = record { width = width; nodes = nodes; props = props; pool = pool }
+
+-- .. and that a width and tables do
+abbrev pub board_of : ℕ → Tables → Board
+board_of width t = board width t.nodes.now t.props.now t.pool.now
 
 -- words are 32 bits wide and bytes 8, as slices of u32 and u8 hold them
 pub record WordSized (b : Board) : Type 0 where

@@ -8,7 +8,7 @@ use Rattle.tables.specs.answers.Tree.{is_child, is_below}
 use Rattle.tables.specs.facts.Board.{parent_word}
 use Rattle.cpumap.specs.answers.Path.{topology_name, cluster_path}
 use Rattle.cpumap.specs.answers.Number.{kind_number, topology_number}
-use Rattle.topology.specs.declared.RecordShape.{RecordShape}
+use Rattle.topology.specs.facts.Told.{RecordShape}
 use Rattle.topology.specs.answers.Siblings.{number_fault}
 
 -- whether the record after i is its child; in a depth-first table, whether i has children

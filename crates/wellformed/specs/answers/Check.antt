@@ -1,7 +1,7 @@
 -- SPDX-License-Identifier: BSD-2-Clause OR GPL-2.0-or-later
 -- What the check of rules 1 to 8 answers.
 use Rattle.std.specs.Prelude.{cond, ℕ, ◌*◌, ◌%◌, eqb, ltb, length}
-use Rattle.laws.specs.declared.Fault.{Fault}
+use Rattle.laws.specs.facts.Told.{Fault}
 use Rattle.laws.specs.facts.Limits.{max_nodes, max_properties, max_pool}
 use Rattle.laws.specs.answers.Fault.{told, or_else, first_fault}
 use Rattle.tables.specs.facts.Board.{Board, arm32, arm64, riscv, node_count, prop_count}

@@ -10,7 +10,7 @@ use Rattle.tokens.specs.answers.Read.{zero_in, zero_from, behind_zero_in, behind
 use Rattle.header.specs.facts.Header.{header_bytes, magic_number, format_version}
 use Rattle.header.specs.answers.Fault.{version_fault, header_fault, blocks_fault}
 use Rattle.stream.specs.answers.Walk.{cpus_mark, begun, walk_from}
-use Rattle.flat.specs.declared.BlobAnswer.{BlobAnswer}
+use Rattle.flat.specs.facts.Told.{BlobAnswer}
 use Rattle.flat.specs.answers.Fill.{has_outer, fill_from}
 use Rattle.flat.specs.answers.Answer.{blob_refused, count_answer, blob_answer, nodes_after, props_after}
 

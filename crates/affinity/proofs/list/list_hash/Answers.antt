@@ -1,6 +1,6 @@
 -- SPDX-License-Identifier: BSD-2-Clause OR GPL-2.0-or-later
 -- `list_hash` refuses a list with a fault, and hashes the mask of any other. Assumes nothing.
-use Rattle.affinity.specs.declared.ListHash.{ListHash}
+use Rattle.affinity.specs.facts.Told.{ListHash}
 use Rattle.affinity.specs.facts.List.{no_hash}
 use Rattle.affinity.specs.answers.List.{hash_answer}
 use Rattle.affinity.proofs.ListLaws.{mask_refused, mask_accepted}

@@ -1,6 +1,6 @@
 -- SPDX-License-Identifier: BSD-2-Clause OR GPL-2.0-or-later
 -- `list_slot` refuses a list with a fault and an MPIDR that is not listed. Assumes nothing.
-use Rattle.affinity.specs.declared.ListSlot.{ListSlot}
+use Rattle.affinity.specs.facts.Told.{ListSlot}
 use Rattle.affinity.specs.answers.List.{slot_answer}
 use Rattle.affinity.proofs.SlotLaws.{slot_guarded_lem}
 use Rattle.affinity.proofs.ListLaws.{mask_refused, mask_accepted}

@@ -1,14 +1,14 @@
 -- SPDX-License-Identifier: BSD-2-Clause OR GPL-2.0-or-later
 -- `read_blocks` meets its contract: the walk decides, and the tables are filled only where it is whole and they have room. Assumes nothing.
+use Rattle.std.specs.Prelude.{Ok}
 use mathlib.Core.Path.{◌≡◌, sym, ap, ◌∙◌}
 use Prim.Native.Nat.{ℕ}
 use native.Mathlib.Omega.{arith}
 use lib.ListN.{length}
 use Rattle.tokens.specs.facts.Token.{Blocks}
-use Rattle.stream.specs.declared.Surveyed.TheVariants.{Whole}
 use Rattle.stream.specs.declared.Walk.{Walk}
 use Rattle.stream.specs.answers.Walk.{walk}
-use Rattle.flat.specs.declared.BlobAnswer.{BlobAnswer}
+use Rattle.flat.specs.facts.Told.{BlobAnswer}
 use Rattle.flat.specs.answers.Answer.{walk_in, walk_answer, count_answer}
 use Rattle.blob.specs.steps.Blocks.{blocks}
 use Rattle.blob.proofs.ReadLaws.{refused_left, filled_left}
@@ -26,7 +26,7 @@ walked c = let a = c.args in c.survey-found.ensures.walk ∙ ap (λ (n : ℕ). w
 answered :
     (c : After-survey-found) {w : Walk} {answer : BlobAnswer} →
     let a = c.args in
-    walk_in (b c) ≡ Whole w →
+    walk_in (b c) ≡ Ok w →
     answer ≡ count_answer (length a.nodes.now) (length a.props.now) w →
     answer ≡ walk_answer (length a.nodes.now) (length a.props.now) (walk_in (b c))
 answered c whole counted = rw whole counted
@@ -38,14 +38,14 @@ overflow_cast-place c =
 
 pub count_answer-answer-requires : goal.count_answer-answer-requires
 count_answer-answer-requires c =
-    let in_block = rw c.in-Whole.is at c.survey-found.ensures.bounded in
+    let in_block = rw c.in-Ok.is at c.survey-found.ensures.bounded in
     let size = c.requires.sizes.0 in
     (omega (arith, in_block.0.nodes, in_block.1, size), omega (arith, in_block.0.props, in_block.1, size))
 
 pub fill-requires : goal.fill-requires
 fill-requires c =
     let survey = (goal.at.fill-requires c).After-survey-found in
-    let whole = sym (walked survey) ∙ c.in-Whole.is in
+    let whole = sym (walked survey) ∙ c.in-Ok.is in
     let told = answered survey whole c.count_answer-answer.ensures in
     let fits = c.requires.room (sym (ap (λ (a : BlobAnswer). a.number) told) ∙ c.if-answer-eq0.true) in
     record { sizes = c.requires.sizes; nodes = rw whole at fits.0; props = rw whole at fits.1 }
@@ -63,7 +63,7 @@ pub returns-then-answer-eq0 : goal.returns-then-answer-eq0
 returns-then-answer-eq0 c =
     let a = c.args in
     let survey = (goal.at.returns-then-answer-eq0 c).After-survey-found in
-    let whole = sym (walked survey) ∙ c.in-Whole.is in
+    let whole = sym (walked survey) ∙ c.in-Ok.is in
     let told = answered survey whole c.count_answer-answer.ensures in
     let left =
     filled_left (b survey) a.nodes.now a.props.now told c.requires.room c.if-answer-eq0.true (rw whole c.fill.ensures.nodes)
@@ -74,6 +74,6 @@ pub returns-else-answer-eq0 : goal.returns-else-answer-eq0
 returns-else-answer-eq0 c =
     let a = c.args in
     let survey = (goal.at.returns-else-answer-eq0 c).After-survey-found in
-    let told = answered survey (sym (walked survey) ∙ c.in-Whole.is) c.count_answer-answer.ensures in
+    let told = answered survey (sym (walked survey) ∙ c.in-Ok.is) c.count_answer-answer.ensures in
     let left = refused_left (b survey) a.nodes.now a.props.now told c.if-answer-eq0.false in
     record { answer = left.0; nodes = left.1.0; props = left.1.1 }

@@ -3,4 +3,4 @@
 use Rattle.cpus.proofs.property.is_number.Goals as goal
 
 pub returns : goal.returns
-returns c = rw c.in-Number.is
+returns c = rw c.in-Some.is

@@ -2,8 +2,8 @@
 -- `number_or` meets its contract. Assumes nothing.
 use Rattle.cpus.proofs.read.number_or.Goals as goal
 
-pub returns-in-Number : goal.returns-in-Number
-returns-in-Number c = rw c.in-Number.is
+pub returns-in-Some : goal.returns-in-Some
+returns-in-Some c = rw c.in-Some.is
 
-pub returns-in-Invalid : goal.returns-in-Invalid
-returns-in-Invalid c = rw (c.in-Invalid.is, c.record_of.ensures)
+pub returns-in-None : goal.returns-in-None
+returns-in-None c = rw (c.in-None.is, c.record_of.ensures)

@@ -1,16 +1,14 @@
 -- SPDX-License-Identifier: BSD-2-Clause OR GPL-2.0-or-later
 -- `read_root` meets its contract: each answer is the definition's at what its tests give. Assumes nothing.
+use Rattle.std.specs.Prelude.{Option, Some}
+use Rattle.tables.specs.declared.Found.{Found}
 use mathlib.Core.Path.{◌≡◌, sym, ap, ◌∙◌}
 use mathlib.Core.Bool.{Bool, true, cond}
-use Rattle.tables.specs.declared.Lookup.{Lookup}
 use Rattle.tables.specs.answers.Lookup.{lookup}
 use Rattle.tables.specs.answers.Range.{range_is}
 use Rattle.tables.specs.facts.Binding.{address_cells_key, size_cells_key, cpus_word}
 use Rattle.tables.specs.facts.Board.{Board, board, name_offset, name_length}
 use Rattle.cpus.specs.declared.Cells.{Cells}
-use Rattle.cpus.specs.declared.RootCells.{RootCells}
-use Rattle.cpus.specs.declared.RootCells.TheVariants.{Are}
-use Rattle.cpus.specs.declared.Value.{Value}
 use Rattle.cpus.specs.answers.Check.{address_cells, cells_for, cells_of, reg_cells, name_fault, told_of_root, root_fault}
 use Rattle.cpus.specs.answers.Cell.{cell_in, cell_of, is_number}
 use Rattle.cpus.proofs.root.read_root.Goals as goal
@@ -18,7 +16,7 @@ use Rattle.cpus.proofs.root.read_root.Goals as goal
 module _ (b : Board) where
   -- what `#address-cells` gives, the cells of a `reg`, and a sound name
   allowed-read :
-      {found : Lookup} {value : Value} {allowed : RootCells} →
+      {found : Option Found} {value : Option ℕ} {allowed : Option Cells} →
       found ≡ lookup b.props b.pool 0 address_cells_key →
       value ≡ cell_in b.pool found →
       allowed ≡ cells_for b.width value →
@@ -26,7 +24,7 @@ module _ (b : Board) where
   unfolding address_cells cell_of
   allowed-read f v a = a ∙ rw (v, f)
 
-  cells-read : {allowed : RootCells} {cells : Cells} → allowed ≡ address_cells b → cells ≡ cells_of allowed → cells ≡ reg_cells b
+  cells-read : {allowed : Option Cells} {cells : Cells} → allowed ≡ address_cells b → cells ≡ cells_of allowed → cells ≡ reg_cells b
   cells-read a e = e ∙ ap cells_of a
 
   name-sound : {test : Bool} → test ≡ range_is b.pool (name_offset b.nodes 0) (name_length b.nodes 0) cpus_word → test ≡ true → name_fault b ≡ 0
@@ -34,10 +32,10 @@ module _ (b : Board) where
 
   -- what is told where the name and `#address-cells` are sound
   size-left :
-      {allowed : RootCells} {cells : Cells} {size : Lookup} {value : Value} {test : Bool} →
+      {allowed : Option Cells} {cells : Cells} {size : Option Found} {value : Option ℕ} {test : Bool} →
       name_fault b ≡ 0 →
       allowed ≡ address_cells b →
-      allowed ≡ Are cells →
+      allowed ≡ Some cells →
       size ≡ lookup b.props b.pool 0 size_cells_key →
       value ≡ cell_in b.pool size →
       test ≡ is_number value 0 →
@@ -82,7 +80,7 @@ returns-then-not-is_number c =
       c.told_of-fault-then-not-is_number.ensures,
       c.find_property-size.ensures.answer,
       cells-read b allowed c.cells_of-cells.ensures,
-      size-left b name allowed c.in-Are.is c.find_property-size.ensures.answer c.cell_in-2.ensures c.is_number.ensures,
+      size-left b name allowed c.in-Some.is c.find_property-size.ensures.answer c.cell_in-2.ensures c.is_number.ensures,
       c.if-not-is_number.true,
     )
 
@@ -94,6 +92,6 @@ returns c =
     let name = name-sound b c.name_is.ensures c.if-not-name_is.false in
     rw (
       cells-read b allowed c.cells_of-cells.ensures,
-      size-left b name allowed c.in-Are.is c.find_property-size.ensures.answer c.cell_in-2.ensures c.is_number.ensures,
+      size-left b name allowed c.in-Some.is c.find_property-size.ensures.answer c.cell_in-2.ensures c.is_number.ensures,
       c.if-not-is_number.false,
     )

@@ -2,8 +2,8 @@
 -- `index_of` meets its contract. Assumes nothing.
 use Rattle.leaves.proofs.leaf.index_of.Goals as goal
 
-pub returns-in-Number : goal.returns-in-Number
-returns-in-Number c = rw c.in-Number.is c.place_in.ensures
+pub returns-in-Some : goal.returns-in-Some
+returns-in-Some c = rw c.in-Some.is c.place_in.ensures
 
-pub returns-in-Invalid : goal.returns-in-Invalid
-returns-in-Invalid c = rw c.in-Invalid.is
+pub returns-in-None : goal.returns-in-None
+returns-in-None c = rw c.in-None.is

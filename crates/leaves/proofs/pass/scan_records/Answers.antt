@@ -8,7 +8,7 @@ use Prim.Native.Nat.{ℕ, ◌<◌}
 use native.Mathlib.Omega.{arith}
 use lib.ListN.{length, length-replicate}
 use borrow.Author.Tests.{not-true, not-false}
-use Rattle.leaves.specs.declared.RecordCheck.{RecordCheck}
+use Rattle.leaves.specs.facts.Told.{RecordCheck}
 use Rattle.leaves.specs.answers.Check.{indexed_cpu}
 use Rattle.leaves.specs.answers.Scan.{Tree, tree, check, is_leaf, tree_fault}
 use Rattle.leaves.specs.steps.Pass.{Marked}

@@ -3,7 +3,7 @@
 use lib.ListN.{replicate}
 use borrow.Author.Tests.{eq-eqb, ne_eqb}
 use Rattle.affinity.proofs.ListLaws.{fault_affine}
-use Rattle.plan.specs.declared.Plan.{Plan}
+use Rattle.plan.specs.facts.Told.{Plan}
 use Rattle.plan.specs.answers.Planner.{plan_of, plan_answer}
 use Rattle.plan.proofs.ListLaws.{list_refused, list_accepted}
 use Rattle.plan.proofs.ThinLaws.{kept_affine}

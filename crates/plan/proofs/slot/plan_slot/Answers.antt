@@ -2,7 +2,7 @@
 -- `plan_slot` refuses what a check refuses, and an MPIDR that is not listed. Assumes nothing.
 use mathlib.Core.Path.{sym, ◌∙◌}
 use borrow.Author.Tests.{eq-eqb, ne_eqb}
-use Rattle.affinity.specs.declared.ListSlot.{ListSlot}
+use Rattle.affinity.specs.facts.Told.{ListSlot}
 use Rattle.plan.specs.answers.Slot.{plan_slot}
 use Rattle.plan.proofs.CheckMeans.{plan_sound}
 use Rattle.plan.proofs.SlotMeans.{slot_meets}

@@ -1,9 +1,9 @@
 -- SPDX-License-Identifier: BSD-2-Clause OR GPL-2.0-or-later
 -- `find_indexed` meets its contract: a word of the table tells. Assumes nothing.
+use Rattle.std.specs.Prelude.{Some}
 use mathlib.Core.Path.{ap, ◌∙◌}
 use Prim.Native.Nat.{◌<◌}
 use native.Mathlib.Omega.{arith}
-use Rattle.tables.specs.declared.Lookup.TheVariants.{At}
 use Rattle.property_index.proofs.IndexLaws.{index_meets}
 use Rattle.property_index.proofs.KeyLaws.{number_lt}
 use Rattle.property_index.proofs.CodeLaws.{key_beyond, key_none, key_some}
@@ -41,6 +41,6 @@ returns-then-noted-eq0 c =
 pub returns : goal.returns
 returns c =
     let a = c.args in
-    let some = ap At c.found_at.ensures ∙ key_some a.props.now a.table.now a.i a.key c.key_number.ensures c.if-noted-eq0.false in
+    let some = ap Some c.found_at.ensures ∙ key_some a.props.now a.table.now a.i a.key c.key_number.ensures c.if-noted-eq0.false in
     let meets = index_meets a.props.now a.table.now a.i a.key some in
     record { answer = meets.0; as_lookup = meets.1.0; finds = meets.1.1 }

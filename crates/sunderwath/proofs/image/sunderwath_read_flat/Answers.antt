@@ -4,7 +4,7 @@ use mathlib.Core.Path.{ap}
 use native.Mathlib.Omega.{arith}
 use lib.ListN.{length}
 use borrow.Author.Tests.{lt-ltb, le-ltb}
-use Rattle.flat.specs.declared.BlobAnswer.{BlobAnswer}
+use Rattle.flat.specs.facts.Told.{BlobAnswer}
 use Rattle.sunderwath.proofs.image.sunderwath_read_flat.Goals as goal
 
 pub returns-then-answer-lt-FLAT_WORDS : goal.returns-then-answer-lt-FLAT_WORDS

@@ -9,7 +9,7 @@ pub returns-in_default : goal.returns-in_default
 returns-in_default c = below_none _ _ _ (parent_top _ _ (sym c.parent_of-parent.ensures ∙ c.in_default.is))
 
 pub returns-then-p-a : goal.returns-then-p-a
-returns-then-p-a c = reach_end _ _ _ c.if-p-a.true ∙ below_from _ _ _ _ (sym c.parent_of-parent.ensures ∙ c.in-Record.is)
+returns-then-p-a c = reach_end _ _ _ c.if-p-a.true ∙ below_from _ _ _ _ (sym c.parent_of-parent.ensures ∙ c.in-Some.is)
 
 pub returns : goal.returns
-returns c = c.reaches.ensures ∙ below_from _ _ _ _ (sym c.parent_of-parent.ensures ∙ c.in-Record.is)
+returns c = c.reaches.ensures ∙ below_from _ _ _ _ (sym c.parent_of-parent.ensures ∙ c.in-Some.is)

@@ -1,0 +1,11 @@
+-- SPDX-License-Identifier: BSD-2-Clause OR GPL-2.0-or-later
+-- What finding the map tells, in numbers.
+use Rattle.std.specs.Prelude.{ℕ, Result, Ok, Err}
+use Rattle.laws.specs.declared.rules.Refusal.{Refusal}
+use Rattle.laws.specs.answers.Told.{told_in, told_of}
+use Rattle.laws.specs.answers.Fault.{clear}
+use Rattle.cpumap.specs.facts.Told.{MapScan}
+
+abbrev pub map_told : Result ℕ Refusal → MapScan
+map_told (Ok map) = record { fault = clear; map = map }
+map_told (Err r) = record { fault = told_of r; map = 0 }
