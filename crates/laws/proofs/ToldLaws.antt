@@ -5,7 +5,7 @@ use Prim.Native.Nat.{ℕ}
 use native.Mathlib.Omega.{arith}
 use Rattle.laws.specs.declared.rules.Rule.{Rule}
 use Rattle.laws.specs.declared.rules.Rule.TheVariants as rule
-use Rattle.laws.specs.answers.Told.{number_of}
+use Rattle.laws.specs.facts.Told.{number_of}
 
 -- no rule has the number 0
 pub rule_counts : (r : Rule) → number_of r ≡ 0 → ⊥

@@ -1,7 +1,7 @@
 // SPDX-License-Identifier: BSD-2-Clause OR GPL-2.0-or-later
 // The rules, each with its number, and what is told of a broken one.
 ghost use Rattle.std.specs.Prelude.{◌≡◌, None};
-ghost use Rattle.laws.specs.answers.Told.{number_of};
+ghost use Rattle.laws.specs.facts.Told.{number_of};
 
 #[derive(Clone, Copy, PartialEq, Eq)]
 pub enum Rule {
