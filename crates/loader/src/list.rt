@@ -14,13 +14,6 @@ use laws::limits::MAX_CPUS;
 use laws::{Refusal, Rule};
 use wire::{NUMBER_BYTES, number_at};
 
-// A list that is no list of 1 to 256 MPIDRs.
-const NO_LIST: ListSlot = ListSlot {
-    number: rules::LIST_LENGTH,
-    place: 0,
-    slot: 0,
-};
-
 // Reads the MPIDRs of a list, as far as the first one with a bit that is no affinity bit. That test keeps the loop from being a mere copy, which
 // the compiler would turn into a call of memcpy.
 fn read_mpidrs(list: &[u8], mpidrs: &mut [u64]) -> Fault

@@ -1,6 +1,6 @@
 -- SPDX-License-Identifier: BSD-2-Clause OR GPL-2.0-or-later
 -- A word at a name's start and a number's digits, one byte at a time. Assumes nothing.
-use Rattle.std.specs.Prelude.{None, Some}
+use Rattle.std.specs.Prelude.{Option, None, Some}
 use mathlib.Core.Path.{◌≡◌, refl}
 use mathlib.Core.Bool.{Bool, true, false, cond}
 use mathlib.Core.List.{List}
@@ -18,7 +18,7 @@ pub after_short : (word name : List ℕ) → length name ≤ length word → Non
 unfolding number_after number_of
 after_short word name h = rw (drop_of_length-le name h) (same (starts_with word name))
   where
-    same : (b : Bool) → None ≡ cond b None None
+    same : (b : Bool) → ◌≡◌ {A = Option ℕ} None (cond b None None)
     same true = refl
     same false = refl
 

@@ -1,6 +1,6 @@
 // SPDX-License-Identifier: BSD-2-Clause OR GPL-2.0-or-later
 // A property record that was found, and its number.
-ghost use Rattle.std.specs.Prelude.{◌≡◌};
+ghost use Rattle.std.specs.Prelude.{◌≡◌, option_map};
 ghost use Rattle.laws.specs.answers.Told.{second_of};
 ghost use Rattle.tables.specs.facts.Property.{found_at};
 ghost use Rattle.tables.specs.answers.Lookup.{record_of};
