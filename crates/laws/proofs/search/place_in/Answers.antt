@@ -41,4 +41,4 @@ returns-clause-place c =
     let a = c.args in
     place_is a.list.now a.number c.position.result
     (position_from_yields_List (is_it a.list.now a.number) _ _ c.position.result c.position.ensures.ran
-    (YieldsList-from_slice a.list.now cc) (λ y b q k. search (rules, tests)))
+    (YieldsList-from_slice a.list.now c.iter.ensures.rest) (λ y b q k. search (rules, tests)))
