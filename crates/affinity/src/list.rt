@@ -19,25 +19,8 @@ pub fn list_hash(list: &[u64]) -> Result<Hash, Refusal>
     ensures demands { HashDemands list.now (hash_told result) }
     ensures plain { IfErr result (λ refusal. refusal.property ≡ None) }
 {
-    let answer = list_mask(list);
-    if answer.number != 0 {
-        let hash = Hash {
-            mask: 0,
-            shifts: [0; 4],
-            bits: 0,
-        };
-        return ListHash {
-            number: answer.number,
-            place: answer.place,
-            hash,
-        };
-    }
-    let hash = hash_of_mask(answer.mask);
-    ListHash {
-        number: 0,
-        place: 0,
-        hash,
-    }
+    let mask = list_mask(list)?;
+    Ok(hash_of_mask(mask))
 }
 
 // The slot of one MPIDR in a list, for one that is listed.
@@ -46,27 +29,11 @@ pub fn list_slot(mpidr: u64, list: &[u64]) -> Result<u32, Refusal>
     ensures demands { SlotDemands list.now mpidr (slot_told result) }
     ensures plain { IfErr result (λ refusal. refusal.property ≡ None) }
 {
-    let answer = list_mask(list);
-    if answer.number != 0 {
-        return ListSlot {
-            number: answer.number,
-            place: answer.place,
-            slot: 0,
-        };
-    }
+    let mask = list_mask(list)?;
     if !is_among(list, mpidr) {
-        return ListSlot {
-            number: rules::LIST_UNKNOWN,
-            place: 0,
-            slot: 0,
-        };
+        return Err(Rule::ListUnknown.at(0));
     }
-    let slot = slot_of(hash_of_mask(answer.mask), mpidr);
-    ListSlot {
-        number: 0,
-        place: 0,
-        slot,
-    }
+    Ok(slot_of(hash_of_mask(mask), mpidr))
 }
 
 // The mask of a list. One pass over a list with no fault: a bit outside in one of the list is one in the or of all.
@@ -74,50 +41,25 @@ pub fn list_mask(list: &[u64]) -> Result<u64, Refusal>
     ensures answer { mask_told result ≡ mask_answer list.now }
     ensures plain { IfErr result (λ refusal. refusal.property ≡ None) }
 {
-    if list.len() == 0 {
-        return ListMask {
-            number: rules::LIST_LENGTH,
-            place: 0,
-            mask: 0,
-        };
-    }
-    if MAX_CPUS < list.len() {
-        return ListMask {
-            number: rules::LIST_LENGTH,
-            place: 0,
-            mask: 0,
-        };
+    if list.is_empty() || MAX_CPUS < list.len() {
+        return Err(Rule::ListLength.at(0));
     }
     let bits = gather(list);
     if !is_affine(bits.some) {
-        let fault = first_outside(list);
-        return ListMask {
-            number: fault.number,
-            place: fault.place,
-            mask: 0,
-        };
+        first_outside(list)?;
     }
-    ListMask {
-        number: 0,
-        place: 0,
-        mask: bits.mask,
-    }
+    Ok(bits.mask)
 }
 
 // The lowest index with a bit outside the affinity bits.
 fn first_outside(list: &[u64]) -> Result<(), Refusal>
-    ensures { told_in result ≡ first_outside list.now }
+    ensures told { told_in result ≡ first_outside list.now }
+    ensures plain { IfErr result (λ refusal. refusal.property ≡ None) }
 {
-    let mut i: usize = 0;
-    while i < list.len() {
-        if !is_affine(list[i]) {
-            return Fault {
-                number: rules::LIST_MPIDR,
-                place: i,
-                second: NO_PROPERTY,
-            };
+    for (i, mpidr) in list.iter().enumerate() {
+        if !is_affine(*mpidr) {
+            return Err(Rule::ListMpidr.at(i));
         }
-        i += 1;
     }
-    CLEAR
+    Ok(())
 }

@@ -17,8 +17,7 @@ pub fn mask_of(list: &[u64]) -> u64
     ensures answer { result ≡ mask_of list.now }
     ensures mask { IsMask list.now result }
 {
-    let bits = gather(list);
-    bits.mask
+    gather(list).mask
 }
 
 // A bit in which two differ is a one in some of the list, and not in all.
@@ -26,12 +25,10 @@ pub fn gather(list: &[u64]) -> Gathered
     ensures { result ≡ gathered list.now }
 {
     let mut some: u64 = 0;
-    let mut all: u64 = 0xFFFF_FFFF_FFFF_FFFF;
-    let mut i: usize = 0;
-    while i < list.len() {
-        some = some | list[i];
-        all = all & list[i];
-        i += 1;
+    let mut all: u64 = u64::MAX;
+    for mpidr in list {
+        some |= *mpidr;
+        all &= *mpidr;
     }
     Gathered {
         some,

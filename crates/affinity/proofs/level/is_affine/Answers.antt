@@ -4,10 +4,10 @@ use Rattle.affinity.specs.answers.Level.{is_affine}
 use borrow.Author.Tests.{eq-eqb, ne_eqb}
 use Rattle.affinity.proofs.level.is_affine.Goals as goal
 
-pub returns-then-mpidr-ne0 : goal.returns-then-mpidr-ne0
+pub returns-then-mpidr-eq0 : goal.returns-then-mpidr-eq0
 unfolding is_affine
-returns-then-mpidr-ne0 c = rw (ne_eqb _ 0 c.if-mpidr-ne0.true)
+returns-then-mpidr-eq0 c = rw (eq-eqb _ 0 c.if-mpidr-eq0.true)
 
-pub returns : goal.returns
+pub returns-else-mpidr-eq0 : goal.returns-else-mpidr-eq0
 unfolding is_affine
-returns c = rw (eq-eqb _ 0 c.if-mpidr-ne0.false)
+returns-else-mpidr-eq0 c = rw (ne_eqb _ 0 c.if-mpidr-eq0.false)

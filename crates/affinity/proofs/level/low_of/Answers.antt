@@ -10,5 +10,5 @@ pub returns-then-part-eq0 : goal.returns-then-part-eq0
 unfolding low_of
 returns-then-part-eq0 c = rw c.if-part-eq0.true
 
-pub returns : goal.returns
-returns c = sym (low_is _ (omega arith))
+pub returns-else-part-eq0 : goal.returns-else-part-eq0
+returns-else-part-eq0 c = sym (low_is _ (omega arith))

@@ -3,17 +3,13 @@
 use mathlib.Core.Path.{ap}
 use Prim.Native.Nat.{◌-◌}
 use native.Mathlib.Omega.{arith}
-use lib.Count.{leading_le}
 use Rattle.affinity.specs.answers.Level.{top_of, width_of}
 use Rattle.affinity.proofs.LevelLaws.{low_width}
 use Rattle.affinity.proofs.level.width_of.Goals as goal
 
-pub overflow_sub-width : goal.overflow_sub-width
-overflow_sub-width c = leading_le 8 _
-
-pub overflow_sub-width-2 : goal.overflow_sub-width-2
+pub overflow_sub-result-2 : goal.overflow_sub-result-2
 unfolding top_of
-overflow_sub-width-2 c = let part = c.args.part in omega (arith, low_width part (omega arith))
+overflow_sub-result-2 c = let part = c.args.part in omega (arith, low_width part (omega arith))
 
 pub returns : goal.returns
 unfolding width_of top_of

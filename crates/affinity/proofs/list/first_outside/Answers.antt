@@ -9,21 +9,20 @@ use Rattle.affinity.proofs.list.first_outside.Goals as goal
 
 pub loop-i-init : goal.loop-i-init
 unfolding first_fault
-loop-i-init c = (omega arith, refl)
+loop-i-init c = refl
 
-pub returns-then-not-is_affine : goal.returns-then-not-is_affine
+pub returns-then-not-is_affine-clause-told : goal.returns-then-not-is_affine-clause-told
 unfolding first_outside
-returns-then-not-is_affine c =
-    at_fault _ _ _ (omega arith) c.loop-i.invariant.1
-    (rw (← c.is_affine.ensures, c.if-not-is_affine.true)) (λ z. omega arith)
+returns-then-not-is_affine-clause-told c =
+    rw c.at.ensures
+    (at_fault _ _ _ (omega arith) c.loop-i.invariant
+    (rw (← c.is_affine.ensures, c.if-not-is_affine.true)) (λ z. omega arith))
 
 pub loop-i-preserved : goal.loop-i-preserved
-loop-i-preserved c = (
-  omega arith,
-  clear_more _ _ c.loop-i.invariant.1 refl
-      (rw (← c.is_affine.ensures, c.if-not-is_affine.false)),
-)
+loop-i-preserved c =
+    clear_more _ _ c.loop-i.invariant refl
+    (rw (← c.is_affine.ensures, c.if-not-is_affine.false))
 
-pub returns : goal.returns
+pub returns-clause-told : goal.returns-clause-told
 unfolding first_outside
-returns c = at_end _ _ _ (omega arith) c.loop-i.invariant.1
+returns-clause-told c = at_end _ _ _ (omega arith) c.loop-i.invariant

@@ -14,20 +14,20 @@ abbrev given : List ℕ → ℕ → Gathered
 given list m =
     record { some = some_below list (length list); mask = m }
 
-pub loop-i-init : goal.loop-i-init
+pub loop-mpidr-init : goal.loop-mpidr-init
 unfolding some_below all_below
-loop-i-init c = (omega arith, refl, refl)
+loop-mpidr-init c = (refl, refl)
 
-pub loop-i-preserved : goal.loop-i-preserved
-loop-i-preserved c =
-    let loop = c.loop-i in
+pub loop-mpidr-preserved : goal.loop-mpidr-preserved
+loop-mpidr-preserved c =
+    let loop = c.loop-mpidr in
     let list = c.args.list.now in
-    (omega arith, rw loop.invariant.1 (sym (some_more list loop.i)), rw loop.invariant.2 (sym (all_more list loop.i)))
+    (rw loop.invariant.0 (sym (some_more list loop.mpidr-index)), rw loop.invariant.1 (sym (all_more list loop.mpidr-index)))
 
 pub returns : goal.returns
 unfolding gathered
 returns c =
-    let loop = c.loop-i in
+    let loop = c.loop-mpidr in
     let list = c.args.list.now in
-    let end : loop.i ≡ length list = omega arith in
-    rw (loop.invariant.1, loop.invariant.2, end) (ap (given list) (mask_is list))
+    let end : loop.mpidr-index ≡ length list = omega arith in
+    rw (loop.invariant.0, loop.invariant.1, end) (ap (given list) (mask_is list))

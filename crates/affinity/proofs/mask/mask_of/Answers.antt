@@ -6,4 +6,4 @@ use Rattle.affinity.proofs.mask.mask_of.Goals as goal
 
 pub returns : goal.returns
 unfolding gathered
-returns c = record { answer = rw c.gather-bits.ensures; mask = rw c.gather-bits.ensures (mask_holds _) }
+returns c = record { answer = rw c.gather.ensures; mask = rw c.gather.ensures (mask_holds _) }

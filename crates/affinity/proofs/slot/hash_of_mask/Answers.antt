@@ -13,7 +13,7 @@ use Rattle.affinity.proofs.slot.hash_of_mask.Goals as goal
 
 pub loop-level-init : goal.loop-level-init
 unfolding sum_below
-loop-level-init c = (omega arith, refl, refl, refl)
+loop-level-init c = (refl, refl, refl)
 
 pub overflow_add-shifts : goal.overflow_add-shifts
 overflow_add-shifts c =
@@ -34,9 +34,8 @@ loop-level-preserved c =
     let loop = c.loop-level in
     let mask = c.args.mask in
     let part = c.level_part-part.ensures in (
-      omega arith,
-      rw (add-one, c.width_of-bits.ensures, part, loop.invariant.1),
-      simp length-set loop.invariant.2,
+      rw (add-one, c.width_of-bits.ensures, part, loop.invariant.0),
+      simp length-set loop.invariant.1,
       fill_next
           loop.shifts
           (shifts_of mask)
@@ -45,8 +44,8 @@ loop-level-preserved c =
           0
           (omega arith)
           (omega arith)
-          loop.invariant.3
-          (rw (c.level_begin.ensures, c.low_of.ensures, part, loop.invariant.1) (shift_at mask loop.level (omega arith))),
+          loop.invariant.2
+          (rw (c.level_begin.ensures, c.low_of.ensures, part, loop.invariant.0) (shift_at mask loop.level (omega arith))),
     )
 
 pub returns : goal.returns
@@ -54,6 +53,6 @@ unfolding hash_of_mask shifts_of
 returns c =
     let loop = c.loop-level in
     let end : loop.level ≡ 4 = omega arith in
-    let shifts = fill_all loop.shifts (shifts_of c.args.mask) 4 loop.invariant.2 refl (rw end at loop.invariant.3) in
-    let bits = rw end at loop.invariant.1 in
+    let shifts = fill_all loop.shifts (shifts_of c.args.mask) 4 loop.invariant.1 refl (rw end at loop.invariant.2) in
+    let bits = rw end at loop.invariant.0 in
     rw (shifts, bits)
