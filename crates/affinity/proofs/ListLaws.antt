@@ -39,16 +39,12 @@ module _ (list : List ℕ) where
   clear_affine h i lt =
       test_affine (get_or list i 0) (bit_affine (get_or list i 0) (((first_is (λ k. bit_fault (get_or list k 0)) (length list)).none h).1 i lt))
 
-  -- the test of the or of a list tells whether 29 is told
+  -- where the or of a list has no bit outside, 29 is not told
   pub some_clear : (g : Gathered) (t : Bool) → g ≡ gathered list → t ≡ is_affine g.some → t ≡ true → first_outside list ≡ clear
   unfolding first_outside gathered
   some_clear g t e q h =
       let some = test_affine g.some (sym q ∙ h) in
       clear_below (λ k. bit_fault (get_or list k 0)) (length list) (λ i lt. rw (affine_passes (get_or list i 0) (some_affine list (rw e at some) i lt)))
-
-  pub some_told : (g : Gathered) (t : Bool) → g ≡ gathered list → t ≡ is_affine g.some → t ≡ false → (first_outside list).number ≡ 0 → ⊥
-  unfolding gathered
-  some_told g t e q h z = true_false (affine_passes g.some (rw e (affine_some list (clear_affine z)))) (sym q ∙ h)
 
   -- within the limits of length, 29 is what may be told
   pub fault_within : (length list ≡ 0 → ⊥) → length list ≤ 256 → list_fault list ≡ first_outside list

@@ -198,12 +198,9 @@ module _ (list : List ℕ) where
       same : (k : ℕ) → k < 64 → digit (bit_and some (2 ^ 64 - 1 - all)) k ≡ differing list k
       same k lt = digit_and some (2 ^ 64 - 1 - all) k ∙ rw (digit_not 64 all k (all_lt (length list)) lt) (some_not_all k lt)
 
-  -- the or of a list has a bit outside the affinity bits when one of the list has, and only then
+  -- where the or of a list has no bit outside the affinity bits, none of the list has one
   pub some_affine : Affine some → AllAffine list
   some_affine h i lt k one = h k (omega (arith, some_ge (length list) k i lt, digit_lt some k))
-
-  pub affine_some : AllAffine list → Affine some
-  affine_some h k one = let t = some_one (length list) k one in h t.0 t.1 k t.2
 
   -- a one of the mask is a one of some of the list, and where the mask has a 0 all of them are the same
   pub mask_one : (k : ℕ) → digit (mask_of list) k ≡ 1 → (i : ℕ) × (i < length list) × (digit (get_or list i 0) k ≡ 1)
