@@ -10,7 +10,6 @@ use lib.ListN.{length, get_or}
 use borrow.Author.Tests.{ne_eqb, eqb-false, ltb-false, le-ltb}
 use Rattle.laws.specs.answers.Fault.{clear, told}
 use Rattle.laws.specs.answers.Search.{is_among}
-use Rattle.laws.proofs.SearchLaws.{true_false}
 use Rattle.laws.proofs.FaultLaws.{first_is, clear_below, place_le}
 use Rattle.laws.proofs.OrElseLaws.{or_clear}
 use Rattle.affinity.specs.facts.Told.{ListMask}
@@ -22,7 +21,7 @@ use Rattle.affinity.specs.steps.Mask.{gathered}
 use Rattle.affinity.specs.answers.List.{length_fault, bit_fault, first_outside, list_fault, mask_answer, hash_answer, slot_answer}
 use Rattle.affinity.specs.steps.List.{AllAffine}
 use Rattle.affinity.proofs.AffineLaws.{test_affine, affine_passes}
-use Rattle.affinity.proofs.MaskLaws.{some_affine, affine_some}
+use Rattle.affinity.proofs.MaskLaws.{some_affine}
 use Rattle.affinity.proofs.AskedLaws.{asked_place}
 
 bit_affine : (x : ℕ) → bit_fault x ≡ 0 → is_affine x ≡ true
