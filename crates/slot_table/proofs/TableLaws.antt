@@ -3,7 +3,7 @@
 use mathlib.Core.Path.{◌≡◌, refl, sym, ap, ap₂, ◌∙◌}
 use mathlib.Core.Bool.{Bool, true, false, cond}
 use mathlib.Core.Logic.{◌⊎◌, inl, inr, ⊎_elim}
-use mathlib.Core.List.{List, [], ◌∷◌}
+use mathlib.Core.List.{List, [], ◌∷◌, ◌++◌}
 use Prim.Native.Nat.{ℕ, zero, suc, ◌+◌, ◌*◌, ◌/◌, ◌%◌, ◌^◌, ◌≤◌, ◌<◌}
 use native.Mathlib.Nat.{eq-or-lt_of_le, le_of_suc-le-suc}
 use native.Mathlib.Numerals.{add-one}
@@ -11,7 +11,7 @@ use native.Mathlib.Omega.{arith}
 use lib.Dec.{ltb}
 use lib.ListN.{length, get_or, take, drop, set, take-append-drop, replicate}
 use lib.ListN.{length-set, length-append, length-drop, length-replicate, get_or-replicate, get_or-append}
-use lib.Seq.{length-take-le, get_or-set_same, get_or-set_other, get_or-take, get_or-drop, ext_get_or, get_or-append-add}
+use lib.Seq.{take_at, drop_at, drop-drop, length-take-le, get_or-set_same, get_or-set_other, get_or-drop, ext_get_or, get_or-append-add}
 use borrow.Author.Tests.{lt-ltb, le-ltb, ltb-true, eq-eqb}
 use Rattle.laws.proofs.BlockLaws.{block_front}
 use Rattle.laws.proofs.DecideLaws.{decided, eq_decides}
@@ -87,9 +87,18 @@ module _ (slot : ℕ → ℕ) (size : ℕ) (table : List ℕ) where
       other ne true h = rw (get_or-set_other (entered n) (slot n) (slot k) (n % 2 ^ 32) 0 (λ q. ne (sym q))) (omega arith)
       other ne false h = omega arith
 
--- the word of a row that holds its slot
-pub slot_word : (rows : List ℕ) (k : ℕ) → get_or rows (row_size * k + 11) 0 ≡ slot_at rows k
-slot_word rows k = sym (get_or-take row_size (drop (row_size * k) rows) 11 0 (omega arith) ∙ get_or-drop (row_size * k) rows 11 0)
+-- one row off the front of those that are left
+module _ (rows : List ℕ) (k : ℕ) (row rest : List ℕ) (left : drop (row_size * k) rows ≡ row ++ rest) (whole : length row ≡ row_size) where
+  pub row_rest : rest ≡ drop (row_size * (k + 1)) rows
+  row_rest =
+      let next : row_size * (k + 1) ≡ row_size * k + row_size = omega arith in
+      rw (next, ← drop-drop row_size (row_size * k) rows, left) (sym (drop_at row rest row_size whole))
+
+  pub row_within : row_size * k ≤ length rows → row_size * (k + 1) ≤ length rows
+  row_within le = omega (arith, length-drop (row_size * k) rows, ap length left, length-append row rest, whole)
+
+  pub row_slot_at : get_or row 11 0 ≡ slot_at rows k
+  row_slot_at = rw (left, take_at row rest row_size whole)
 
 -- one row more
 module _ (slot : ℕ → ℕ) (size k : ℕ) (before : List ℕ) {table : List ℕ} (entered_so_far : table ≡ entered_below slot size k before) where
