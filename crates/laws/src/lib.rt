@@ -1,6 +1,5 @@
 // SPDX-License-Identifier: BSD-2-Clause OR GPL-2.0-or-later
-// What every other crate uses: general laws, the numbers and the limits of the rules, what is told of a broken one, the search of a list,
-// and a length cut to the room.
+// What every other crate uses: general laws, the numbers and the limits of the rules, what is told of a broken one, and the search of a list.
 #![tactic(auto)]
 
 pub mod limits;
