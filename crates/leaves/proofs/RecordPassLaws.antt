@@ -22,56 +22,47 @@ use Rattle.tables.specs.facts.Board.{node_count}
 use Rattle.laws.specs.facts.Limits.{max_cpus}
 use Rattle.leaves.specs.facts.Told.{RecordCheck}
 use Rattle.leaves.specs.answers.Scan.{Tree, check, is_leaf, cpu_of, named_below, tree_fault, leaf_list, passed}
-use Rattle.leaves.specs.steps.Pass.{is_marked, Marked, PassArrays, checked_fault, leaf_scan}
+use Rattle.leaves.specs.steps.Pass.{is_marked, Marked, PassArrays, leaf_scan}
 use Rattle.leaves.proofs.LeafCount.{leaves_fit}
 
-module _ (t : Tree) where
-  -- a cpu is marked where a leaf names it
-  pub marked_is : {n : ℕ} {marks : List ℕ} → Marked t n marks → (k : ℕ) → is_marked marks k ≡ named_below t n k
-  marked_is {n} m k = rw (m.each k) (go (named_below t n k))
-    where
-      go : (b : Bool) → eqb (cond b 1 0) 1 ≡ b
-      go true = refl
-      go false = refl
-
-  marked_none : {marks : List ℕ} → marks ≡ replicate 256 0 → Marked t 0 marks
-  unfolding named_below any_below
-  marked_none {marks} e =
-      record { size = ap length e ∙ length-replicate {A = ℕ} 256 0; each = λ k. ap (λ (l : List ℕ). get_or l k 0) e ∙ go k (lt_or_le k 256) }
-    where
-      go : (k : ℕ) → (k < 256) ⊎ (256 ≤ k) → get_or {A = ℕ} (replicate 256 0) k 0 ≡ 0
-      go k (inl lt) = rw (get_or-replicate {A = ℕ} 256 k 0 0 lt)
-      go k (inr le) = rw (get_or-eq_default {A = ℕ} (replicate 256 0) 0 {n = k} (rw (length-replicate {A = ℕ} 256 0) le))
+-- no leaf names a cpu yet
+marked_none : (t : Tree) {marks : List Bool} → marks ≡ replicate 256 false → Marked t 0 marks
+unfolding named_below any_below
+marked_none t {marks} e = record { size = rw (e, length-replicate {A = Bool} 256 false); each = λ k. rw e (go k (lt_or_le k 256)) }
+  where
+    go : (k : ℕ) → (k < 256) ⊎ (256 ≤ k) → get_or {A = Bool} (replicate 256 false) k false ≡ false
+    go k (inl lt) = get_or-replicate {A = Bool} 256 k false false lt
+    go k (inr le) = get_or-eq_default {A = Bool} (replicate 256 false) false {n = k} (rw (length-replicate {A = Bool} 256 false) le)
 
 -- what is marked before record i + 1
-module _ (t : Tree) {marks : List ℕ} {i : ℕ} (m : Marked t i marks) where
+module _ (t : Tree) {marks : List Bool} {i : ℕ} (m : Marked t i marks) where
   mark_keep : is_leaf t i ≡ false → Marked t (i + 1) marks
   unfolding named_below any_below
   mark_keep h = record { size = m.size; each = λ k. rw (add-one i, h) (m.each k) }
 
-  mark_push : {c : ℕ} → c ≡ cpu_of t i → c < 256 → is_leaf t i ≡ true → Marked t (i + 1) (set marks c 1)
+  mark_push : {c : ℕ} → c ≡ cpu_of t i → c < 256 → is_leaf t i ≡ true → Marked t (i + 1) (set marks c true)
   unfolding named_below any_below
-  mark_push {c} e lt h = record { size = length-set marks c 1 ∙ m.size; each = λ k. rw (add-one i, h, ← e) (go k (eqb c k) refl) }
+  mark_push {c} e lt h = record { size = length-set marks c true ∙ m.size; each = λ k. rw (add-one i, h, ← e) (go k (eqb c k) refl) }
     where
-      go : (k : ℕ) (b : Bool) → eqb c k ≡ b → get_or (set marks c 1) k 0 ≡ cond (cond b true (named_below t i k)) 1 0
-      go k true q = let same = eqb-true c k q in rw (← same, get_or-set_same marks c 1 0 (omega (arith, m.size)))
-      go k false q = rw (get_or-set_other marks c k 1 0 (λ r. eqb-false c k q (sym r))) (m.each k)
+      go : (k : ℕ) (b : Bool) → eqb c k ≡ b → get_or (set marks c true) k false ≡ cond b true (named_below t i k)
+      go k true q = let same = eqb-true c k q in rw (← same, get_or-set_same marks c true false (omega (arith, m.size)))
+      go k false q = rw (get_or-set_other marks c k true false (λ r. eqb-false c k q (sym r))) (m.each k)
 
 module _ (t : Tree) (leaves₀ named₀ : List ℕ) where
   -- what is gathered in the lent arrays before record i, where the records before it break no rule
-  pub record Gathered (marks leaves named : List ℕ) (count i : ℕ) : Type 0 where
+  pub record Gathered (marks : List Bool) (leaves named : List ℕ) (count i : ℕ) : Type 0 where
     pub clean : first_fault (tree_fault t) i ≡ clear
     pub counted : count ≡ count_below (is_leaf t) i
     pub leaves_are : leaves ≡ laid_over (list_below (is_leaf t) i) leaves₀
     pub named_are : named ≡ laid_over (map (cpu_of t) (list_below (is_leaf t) i)) named₀
     pub marks_are : Marked t i marks
 
-  pub gathered_none : {marks : List ℕ} → marks ≡ replicate 256 0 → Gathered marks leaves₀ named₀ 0 0
+  pub gathered_none : {marks : List Bool} → marks ≡ replicate 256 false → Gathered marks leaves₀ named₀ 0 0
   unfolding first_fault count_below list_below
   gathered_none e =
       record { clean = refl; counted = refl; leaves_are = sym (over_none leaves₀); named_are = sym (over_none named₀); marks_are = marked_none t e }
 
-  module _ {marks leaves named : List ℕ} {count i : ℕ} (g : Gathered marks leaves named count i) where
+  module _ {marks : List Bool} {leaves named : List ℕ} {count i : ℕ} (g : Gathered marks leaves named count i) where
     pub fault_is : {r : RecordCheck} {v : ℕ} → r ≡ check t i → v ≡ checked_fault marks r → v ≡ tree_fault t i
     unfolding tree_fault
     fault_is e f =
@@ -132,7 +123,7 @@ module _ (t : Tree) (leaves₀ named₀ : List ℕ) where
         pub gather_room : count < 256
         gather_room = omega (arith, g.counted, count_yes (is_leaf t) i h, list_length (is_leaf t) (i + 1), leaves_fit t few (i + 1) cleaner)
 
-        pub gather_push : {k : ℕ} → k ≡ cpu_of t i → k < 256 → Gathered (set marks k 1) (set leaves count i) (set named count k) (count + 1) (i + 1)
+        pub gather_push : {k : ℕ} → k ≡ cpu_of t i → k < 256 → Gathered (set marks k true) (set leaves count i) (set named count k) (count + 1) (i + 1)
         gather_push q lt =
             record {
               clean = cleaner;

@@ -24,7 +24,6 @@ use Rattle.leaves.specs.answers.Scan.{record_fault, leaves_fault, leaf_list, sca
 use Rattle.leaves.specs.answers.Scan.{passed, leaves_over, named_over}
 use Rattle.leaves.specs.steps.Pass.{Marked, PassArrays, leaf_scan, unmarked_fault}
 use Rattle.leaves.proofs.LeafCount.{leaves_le, clear_apart}
-use Rattle.leaves.proofs.RecordPassLaws.{marked_is}
 
 -- where no record breaks rules 18 to 25 nothing is told
 record_clears : (t : Tree) → (record_fault t).number ≡ 0 → record_fault t ≡ clear
@@ -61,7 +60,7 @@ module _ (t : Tree) (records : List ℕ) where
 
       -- the second pass looks for rule 26 among the marks of all leaves
       pub last_is :
-          {marks : List ℕ} {f : Fault} →
+          {marks : List Bool} {f : Fault} →
           Marked t (passed t) marks →
           f ≡ fault_of_member records (first_fault (unmarked_fault marks) (length records)) →
           f ≡ last
@@ -71,7 +70,7 @@ module _ (t : Tree) (records : List ℕ) where
           h
           ∙ ap (fault_of_member records)
           (first_same (unmarked_fault marks) (λ k. cond (named_below t (node_count t.nodes) k) 0 26) (length records)
-          (λ k lt _. ap (λ (b : Bool). cond b 0 26) (marked_is t all k)))
+          (λ k lt _. ap (λ (b : Bool). cond b 0 26) (all.each k)))
 
       module _ {f : Fault} (h : f ≡ last) where
         second : scanned t f ≡ tree_scan t records
@@ -109,7 +108,7 @@ module _ (t : Tree) (records : List ℕ) (z : (leaves_fault t records).number �
 
 -- what the pass over the records answers and leaves, of the tree with the first m words and n phandles of lent slices
 pub cut_pass :
-    (nodes props pool index : List ℕ) (root : ℕ) (phandles : List ℕ) {m n : ℕ} {s : TreeScan} {leaves₀ named₀ marks leaves named : List ℕ} →
+    (nodes props pool index : List ℕ) (root : ℕ) (phandles : List ℕ) {m n : ℕ} {s : TreeScan} {leaves₀ named₀ : List ℕ} {marks : List Bool} {leaves named : List ℕ} →
     m ≡ min (length nodes) (3 * max_nodes) →
     n ≡ min (length phandles) max_cpus →
     let t = tree (take m nodes) (indexed_cpu props index) pool root (take n phandles) in

@@ -8,29 +8,23 @@ ghost use Rattle.laws.specs.answers.Listed.{fault_of_member};
 ghost use Rattle.leaves.specs.answers.Scan.{tree_in, tree_scan, leaves_over, named_over};
 ghost use Rattle.leaves.specs.steps.Pass.{unmarked_fault};
 
-use crate::pass::{is_marked, refuse, scan_records};
+use crate::pass::{is_marked, scan_records};
 use laws::limits::{MAX_CPUS, MAX_NODES};
 use laws::{Refusal, Rule};
 use property_index::INDEX_WORDS;
 use tables::Tables;
 
 // The first of a list of cpu records that breaks rule 26: its index in the list is not marked.
-fn first_unmapped(records: &[u16], marks: &[u8]) -> Fault
+fn first_unmapped(records: &[u16], marks: &[bool]) -> Result<(), Refusal>
     ensures { let list = records.now in
-        result ≡ fault_of_member list (first_fault (unmarked_fault marks.now) (length list)) }
+        told_in result ≡ fault_of_member list (first_fault (unmarked_fault marks.now) (length list)) }
 {
-    let mut k: usize = 0;
-    while k < records.len() {
+    for (k, record) in records.iter().enumerate() {
         if !is_marked(marks, k) {
-            return Fault {
-                number: rules::CPU_UNMAPPED,
-                place: records[k] as usize,
-                second: NO_PROPERTY,
-            };
+            return Err(Rule::CpuUnmapped.at(usize::from(*record)));
         }
-        k += 1;
     }
-    CLEAR
+    Ok(())
 }
 
 // Checks rules 18 to 26, and lists the leaves, and for each the index of the cpu record that it names. It looks at the first 1,024 records and
@@ -51,26 +45,22 @@ pub fn read_tree(
     ensures named { let t = tree_in tables.now index.now map phandles.now in
         named.new ≡ named_over t named.old }
 {
-    let words = at_most(nodes.len(), 3 * MAX_NODES);
-    let known = at_most(phandles.len(), MAX_CPUS);
-    let mut marks = [0u8; MAX_CPUS];
-    let scan = scan_records(
-        &nodes[..words],
-        props,
-        pool,
+    let words = tables.nodes.len().min(3 * MAX_NODES);
+    let known = phandles.len().min(MAX_CPUS);
+    let first = Tables {
+        nodes: &tables.nodes[..words],
+        ..*tables
+    };
+    let mut marks = [false; MAX_CPUS];
+    let count = scan_records(
+        &first,
         index,
         map,
         &phandles[..known],
         &mut marks,
         leaves,
         named,
-    );
-    if scan.fault.number != 0 {
-        return scan;
-    }
-    let fault = first_unmapped(cpu_records, &marks);
-    if fault.number != 0 {
-        return refuse(fault);
-    }
-    scan
+    )?;
+    first_unmapped(cpu_records, &marks)?;
+    Ok(count)
 }
