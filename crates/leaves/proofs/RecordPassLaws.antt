@@ -11,19 +11,28 @@ use lib.Dec.{eqb}
 use lib.ListN.{length, get_or, set, replicate, length-set, length-replicate, get_or-replicate, get_or-eq_default}
 use lib.Seq.{get_or-set_same, get_or-set_other}
 use borrow.Author.Tests.{ne_eqb, eqb-true, eqb-false}
+use Rattle.std.specs.Prelude.{None, Ok, Err}
+use Rattle.laws.specs.declared.rules.Refusal.{Refusal}
+use Rattle.laws.specs.facts.Told.{number_of}
 use Rattle.laws.specs.answers.Fault.{plain, clear, or_number, first_fault}
 use Rattle.laws.specs.answers.Search.{any_below, count_below, list_below}
 use Rattle.laws.specs.answers.Listed.{laid_over}
 use Rattle.laws.proofs.SearchLaws.{lt_or_le, count_yes, count_no, list_no, list_length}
+use Rattle.laws.proofs.ToldLaws.{rule_counts, number_first}
 use Rattle.laws.proofs.FaultLaws.{clear_more, at_fault, at_end}
 use Rattle.laws.proofs.GatherLaws.{gathered_length, gathered_more}
 use Rattle.laws.proofs.OverLaws.{over_none, over_add, listed_yes, listed_no}
 use Rattle.tables.specs.facts.Board.{node_count}
-use Rattle.laws.specs.facts.Limits.{max_cpus}
+use Rattle.laws.specs.facts.Limits.{max_cpus, no_property}
 use Rattle.leaves.specs.facts.Told.{RecordCheck}
 use Rattle.leaves.specs.answers.Scan.{Tree, check, is_leaf, cpu_of, named_below, tree_fault, leaf_list, passed}
 use Rattle.leaves.specs.steps.Pass.{is_marked, Marked, PassArrays, leaf_scan}
-use Rattle.leaves.proofs.LeafCount.{leaves_fit}
+use Rattle.leaves.specs.answers.Told.{check_told, tree_told}
+use Rattle.leaves.proofs.LeafCount.{leaf_is, leaves_fit}
+
+-- the number that a record breaks: its own, or 25 where it is a leaf and an earlier leaf names its cpu
+abbrev checked_fault : List Bool → RecordCheck → ℕ
+checked_fault marks r = or_number r.number (cond r.leaf (cond (is_marked marks r.cpu) 25 0) 0)
 
 -- no leaf names a cpu yet
 marked_none : (t : Tree) {marks : List Bool} → marks ≡ replicate 256 false → Marked t 0 marks
@@ -63,12 +72,11 @@ module _ (t : Tree) (leaves₀ named₀ : List ℕ) where
       record { clean = refl; counted = refl; leaves_are = sym (over_none leaves₀); named_are = sym (over_none named₀); marks_are = marked_none t e }
 
   module _ {marks : List Bool} {leaves named : List ℕ} {count i : ℕ} (g : Gathered marks leaves named count i) where
-    pub fault_is : {r : RecordCheck} {v : ℕ} → r ≡ check t i → v ≡ checked_fault marks r → v ≡ tree_fault t i
+    fault_is : {r : RecordCheck} → r ≡ check t i → checked_fault marks r ≡ tree_fault t i
     unfolding tree_fault
-    fault_is e f =
-        f
-        ∙ ap (checked_fault marks) e
-        ∙ ap (λ (b : Bool). or_number (check t i).number (cond (is_leaf t i) (cond b 25 0) 0)) (marked_is t g.marks_are (cpu_of t i))
+    fault_is e =
+        ap (checked_fault marks) e
+        ∙ ap (λ (b : Bool). or_number (check t i).number (cond (is_leaf t i) (cond b 25 0) 0)) (g.marks_are.each (cpu_of t i))
 
     -- what is left in the arrays where the pass ends at record i
     abbrev LeftHere : Type 0
@@ -82,12 +90,23 @@ module _ (t : Tree) (leaves₀ named₀ : List ℕ) where
       first_at : first_fault (tree_fault t) (node_count t.nodes) ≡ plain v i
       first_at = sym (at_fault (tree_fault t) i (node_count t.nodes) lt g.clean e ne)
 
-      pub told_scan : {s : ℕ} → s ≡ (check t i).second → record { fault = record { number = v; place = i; second = s }; count = 0 } ≡ leaf_scan t
+      told_scan : {s : ℕ} → s ≡ (check t i).second → record { fault = record { number = v; place = i; second = s }; count = 0 } ≡ leaf_scan t
       unfolding leaf_scan
       told_scan second = rw (first_at, ne_eqb v 0 ne, second)
 
-      pub told_left : LeftHere
+      told_left : LeftHere
       told_left = left (rw (first_at, ne_eqb v 0 ne))
+
+    -- the check of record i refuses it
+    module _ {none : ℕ} (r : Refusal) (lt : i < node_count t.nodes) (e : check_told none (Err r) ≡ check t i) where
+      broken : number_of r.rule ≡ tree_fault t i
+      broken = sym (number_first r.rule 0) ∙ fault_is e
+
+      pub refused_scan : r.place ≡ i → tree_told (Err r) ≡ leaf_scan t
+      refused_scan p = rw p (told_scan lt broken (rule_counts r.rule) (ap (λ (c : RecordCheck). c.second) e))
+
+      pub refused_left : LeftHere
+      refused_left = told_left lt broken (rule_counts r.rule)
 
     -- all records are passed
     module _ (e : i ≡ node_count t.nodes) where
@@ -104,12 +123,12 @@ module _ (t : Tree) (leaves₀ named₀ : List ℕ) where
       all_left = left (rw first_none (sym e))
 
     -- record i breaks none
-    module _ {v : ℕ} (e : v ≡ tree_fault t i) (z : v ≡ 0) where
+    module _ (e : 0 ≡ tree_fault t i) where
       cleaner : first_fault (tree_fault t) (i + 1) ≡ clear
-      cleaner = clear_more (tree_fault t) i g.clean e z
+      cleaner = clear_more (tree_fault t) i g.clean e refl
 
-      pub gather_keep : is_leaf t i ≡ false → Gathered marks leaves named count (i + 1)
-      gather_keep h =
+      keep : is_leaf t i ≡ false → Gathered marks leaves named count (i + 1)
+      keep h =
           record {
             clean = cleaner;
             counted = g.counted ∙ sym (count_no (is_leaf t) i h);
@@ -118,21 +137,57 @@ module _ (t : Tree) (leaves₀ named₀ : List ℕ) where
             marks_are = mark_keep t g.marks_are h;
           }
 
-      -- it is a leaf: there is room for it
-      module _ (few : length t.phandles ≤ max_cpus) (h : is_leaf t i ≡ true) where
-        pub gather_room : count < 256
-        gather_room = omega (arith, g.counted, count_yes (is_leaf t) i h, list_length (is_leaf t) (i + 1), leaves_fit t few (i + 1) cleaner)
+    -- it is no leaf
+    pub gather_keep : {none : ℕ} → check_told none (Ok None) ≡ check t i → Gathered marks leaves named count (i + 1)
+    gather_keep e = keep (fault_is e) (sym (ap (λ (r : RecordCheck). r.leaf) e))
 
-        pub gather_push : {k : ℕ} → k ≡ cpu_of t i → k < 256 → Gathered (set marks k true) (set leaves count i) (set named count k) (count + 1) (i + 1)
-        gather_push q lt =
+    -- it is a leaf that names a cpu
+    module _ {cpu : ℕ} (e : record { number = 0; second = no_property; leaf = true; cpu = cpu } ≡ check t i) where
+      is_a_leaf : is_leaf t i ≡ true
+      is_a_leaf = sym (ap (λ (r : RecordCheck). r.leaf) e)
+
+      names : cpu ≡ cpu_of t i
+      names = ap (λ (r : RecordCheck). r.cpu) e
+
+      -- .. that an earlier leaf names
+      module _ (lt : i < node_count t.nodes) (marked : is_marked marks cpu ≡ true) where
+        repeated : 25 ≡ tree_fault t i
+        repeated = rw marked at (fault_is e)
+
+        pub repeated_scan : record { fault = plain 25 i; count = 0 } ≡ leaf_scan t
+        repeated_scan = told_scan lt repeated (λ z. omega arith) (ap (λ (r : RecordCheck). r.second) e)
+
+        pub repeated_left : LeftHere
+        repeated_left = told_left lt repeated (λ z. omega arith)
+
+      -- .. that no earlier leaf names: there is room for it
+      module _ (few : length t.phandles ≤ max_cpus) (unmarked : is_marked marks cpu ≡ false) where
+        first_named : 0 ≡ tree_fault t i
+        first_named = rw unmarked at (fault_is e)
+
+        pub gather_room : count < 256
+        gather_room =
+            omega (
+              arith,
+              g.counted,
+              count_yes (is_leaf t) i is_a_leaf,
+              list_length (is_leaf t) (i + 1),
+              leaves_fit t few (i + 1) (cleaner first_named),
+            )
+
+        pub cpu_room : cpu < 256
+        cpu_room = omega (arith, names, (leaf_is t i is_a_leaf).inside)
+
+        pub gather_push : Gathered (set marks cpu true) (set leaves count i) (set named count cpu) (count + 1) (i + 1)
+        gather_push =
             record {
-              clean = cleaner;
-              counted = omega (arith, g.counted, count_yes (is_leaf t) i h);
-              leaves_are = listed_yes (is_leaf t) i leaves₀ g.counted g.leaves_are h;
+              clean = cleaner first_named;
+              counted = omega (arith, g.counted, count_yes (is_leaf t) i is_a_leaf);
+              leaves_are = listed_yes (is_leaf t) i leaves₀ g.counted g.leaves_are is_a_leaf;
               named_are =
-                  ap₂ (λ (x : List ℕ) (y : ℕ). set x count y) g.named_are q
+                  ap₂ (λ (x : List ℕ) (y : ℕ). set x count y) g.named_are names
                   ∙ over_add (map (cpu_of t) (list_below (is_leaf t) i)) named₀ (cpu_of t i) count
                   (gathered_length (is_leaf t) (cpu_of t) i ∙ sym g.counted)
-                  ∙ ap (λ (x : List ℕ). laid_over x named₀) (sym (gathered_more (is_leaf t) (cpu_of t) i h));
-              marks_are = mark_push t g.marks_are q lt h;
+                  ∙ ap (λ (x : List ℕ). laid_over x named₀) (sym (gathered_more (is_leaf t) (cpu_of t) i is_a_leaf));
+              marks_are = mark_push t g.marks_are names cpu_room is_a_leaf;
             }

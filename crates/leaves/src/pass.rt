@@ -43,15 +43,16 @@ pub fn scan_records(
 {
     let mut count = 0;
     for i in 0..tables.nodes.len() / 3 {
-        if let Some(cpu) = record_check(tables, index, map, phandles, i)? {
-            if is_marked(marks, cpu) {
-                return Err(Rule::CpuMapCpuRepeated.at(i));
-            }
-            leaves[count] = i as u16;
-            named[count] = cpu as u16;
-            marks[cpu] = true;
-            count += 1;
+        let Some(cpu) = record_check(tables, index, map, phandles, i)? else {
+            continue;
+        };
+        if is_marked(marks, cpu) {
+            return Err(Rule::CpuMapCpuRepeated.at(i));
         }
+        leaves[count] = i as u16;
+        named[count] = cpu as u16;
+        marks[cpu] = true;
+        count += 1;
     }
     Ok(count)
 }
