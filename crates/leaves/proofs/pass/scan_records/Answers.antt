@@ -1,18 +1,15 @@
 -- SPDX-License-Identifier: BSD-2-Clause OR GPL-2.0-or-later
 -- `scan_records` meets its contract: the lent arrays hold what is gathered before record i, and a leaf that breaks no rule has room in them.
 -- Assumes nothing.
-use mathlib.Core.Path.{◌≡◌, sym, ap, ◌∙◌}
-use mathlib.Core.Bool.{Bool, true, false}
-use mathlib.Core.List.{List}
-use Prim.Native.Nat.{ℕ, ◌<◌}
+use mathlib.Core.Path.{◌≡◌, sym, ◌∙◌}
+use mathlib.Core.Bool.{true, false}
+use Prim.Native.Nat.{◌<◌}
 use native.Mathlib.Omega.{arith}
-use lib.ListN.{length, length-replicate}
 use Rattle.std.proofs.lemmas.Result.{err_from_is_err_and}
 use Rattle.laws.specs.facts.Limits.{no_property}
-use Rattle.leaves.specs.facts.Told.{RecordCheck}
 use Rattle.leaves.specs.answers.Check.{indexed_cpu}
 use Rattle.leaves.specs.answers.Scan.{Tree, tree, check}
-use Rattle.leaves.specs.steps.Pass.{is_marked, Marked}
+use Rattle.leaves.specs.steps.Pass.{is_marked}
 use Rattle.leaves.proofs.RecordPassLaws.{gathered_none, refused_scan, refused_left, repeated_scan, repeated_left, all_scan, all_left}
 use Rattle.leaves.proofs.RecordPassLaws.{gather_keep, gather_room, cpu_room, gather_push}
 use Rattle.leaves.proofs.pass.scan_records.Goals as goal
