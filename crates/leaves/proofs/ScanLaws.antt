@@ -108,7 +108,8 @@ module _ (t : Tree) (records : List ℕ) (z : (leaves_fault t records).number �
 
 -- what the pass over the records answers and leaves, of the tree with the first m words and n phandles of lent slices
 pub cut_pass :
-    (nodes props pool index : List ℕ) (root : ℕ) (phandles : List ℕ) {m n : ℕ} {s : TreeScan} {leaves₀ named₀ : List ℕ} {marks : List Bool} {leaves named : List ℕ} →
+    (nodes props pool index : List ℕ) (root : ℕ) (phandles : List ℕ) {m n : ℕ} {s : TreeScan} →
+    {leaves₀ named₀ : List ℕ} {marks : List Bool} {leaves named : List ℕ} →
     m ≡ min (length nodes) (3 * max_nodes) →
     n ≡ min (length phandles) max_cpus →
     let t = tree (take m nodes) (indexed_cpu props index) pool root (take n phandles) in
