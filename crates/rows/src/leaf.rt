@@ -10,18 +10,16 @@ use crate::{NamedCpu, Placed};
 use cpumap::{Position, position_of, topology_name, topology_number};
 use layout::{GAP, Row};
 use names::TopologyName;
-use tables::{Parent, parent_of};
+use tables::{Tables, parent_of};
 
 // The number of a leaf's core: its own, or for a thread that of its parent p.
-fn core_of(nodes: &[u32], pool: &[u8], name: TopologyName, p: usize) -> u32
-    ensures { result ≡ core_of name (topology_name nodes.now pool.now p) }
+fn core_of(tables: &Tables, name: TopologyName, p: usize) -> u32
+    ensures { result ≡ core_of name (topology_name tables.now.nodes.now tables.now.pool.now p) }
 {
     match name {
-        TopologyName::Socket(_) => GAP,
-        TopologyName::Cluster(_) => GAP,
         TopologyName::Core(n) => n,
-        TopologyName::Thread(_) => topology_number(topology_name(nodes, pool, p)),
-        TopologyName::Other => GAP,
+        TopologyName::Thread(_) => topology_number(topology_name(tables, p)),
+        _ => GAP,
     }
 }
 
@@ -29,55 +27,39 @@ fn thread_of(name: TopologyName) -> u32
     ensures { result ≡ thread_of name }
 {
     match name {
-        TopologyName::Socket(_) => GAP,
-        TopologyName::Cluster(_) => GAP,
-        TopologyName::Core(_) => GAP,
         TopologyName::Thread(n) => n,
-        TopologyName::Other => GAP,
+        _ => GAP,
     }
 }
 
 // Whether a record of that name, under that parent, has its parent's position: it is neither a socket nor a cluster.
-fn keeps_position(parent: Parent, name: TopologyName) -> bool
+fn keeps_position(parent: Option<usize>, name: TopologyName) -> bool
     ensures { result ≡ keeps_position parent name }
 {
-    match parent {
-        Parent::Record(_) => match name {
-            TopologyName::Socket(_) => false,
-            TopologyName::Cluster(_) => false,
-            TopologyName::Core(_) => true,
-            TopologyName::Thread(_) => true,
-            TopologyName::Other => true,
-        },
-        Parent::Top => false,
-    }
+    parent.is_some() && !matches!(name, TopologyName::Socket(_) | TopologyName::Cluster(_))
 }
 
 // The position of a leaf, given its name and the position of the record that its parent word names.
-fn leaf_position(
-    nodes: &[u32],
-    pool: &[u8],
-    leaf: usize,
-    name: TopologyName,
-    above: Position,
-) -> Position
-    requires name { name ≡ topology_name nodes.now pool.now leaf }
-    requires above { above ≡ position_of nodes.now pool.now (parent_word nodes.now leaf) }
-    ensures { result ≡ position_of nodes.now pool.now leaf }
+fn leaf_position(tables: &Tables, leaf: usize, name: TopologyName, above: Position) -> Position
+    requires name { name ≡ topology_name tables.now.nodes.now tables.now.pool.now leaf }
+    requires above { let table = tables.now.nodes.now in
+        above ≡ position_of table tables.now.pool.now (parent_word table leaf) }
+    ensures { result ≡ position_of tables.now.nodes.now tables.now.pool.now leaf }
 {
-    if keeps_position(parent_of(nodes, leaf), name) {
+    if keeps_position(parent_of(tables.nodes, leaf), name) {
         return above;
     }
-    position_of(nodes, pool, leaf)
+    position_of(tables, leaf)
 }
 
 // The row of a leaf record and of the cpu that it names, given its parent.
-pub fn row_of(nodes: &[u32], pool: &[u8], above: Placed, leaf: usize, named: NamedCpu) -> Row
-    requires { above ≡ placed nodes.now pool.now (parent_word nodes.now leaf) }
-    ensures { result ≡ row_of nodes.now pool.now leaf named }
+pub fn row_of(tables: &Tables, above: Placed, leaf: usize, named: NamedCpu) -> Row
+    requires { let table = tables.now.nodes.now in
+        above ≡ placed table tables.now.pool.now (parent_word table leaf) }
+    ensures { result ≡ row_of tables.now.nodes.now tables.now.pool.now leaf named }
 {
-    let name = topology_name(nodes, pool, leaf);
-    let position = leaf_position(nodes, pool, leaf, name, above.position);
+    let name = topology_name(tables, leaf);
+    let position = leaf_position(tables, leaf, name, above.position);
     let path = position.clusters.numbers;
     Row {
         leaf: (leaf % 4294967296) as u32,
@@ -86,7 +68,7 @@ pub fn row_of(nodes: &[u32], pool: &[u8], above: Placed, leaf: usize, named: Nam
         lower: (named.reg % 4294967296) as u32,
         socket: position.socket,
         path,
-        core: core_of(nodes, pool, name, above.node),
+        core: core_of(tables, name, above.node),
         thread: thread_of(name),
         slot: named.slot,
     }

@@ -15,36 +15,30 @@ use tables::{Tables, node_word};
 fn record_at(list: &[u16], k: usize) -> usize
     ensures { result ≡ get_or list.now k 0 }
 {
-    if k < list.len() {
-        return list[k] as usize;
-    }
-    0
+    list.get(k).copied().map_or(0, usize::from)
 }
 
 // Record p and its position, given another record with its own.
-fn placed_at(nodes: &[u32], pool: &[u8], p: usize, last: Placed) -> Placed
-    requires { last ≡ placed nodes.now pool.now last.node }
-    ensures { result ≡ placed nodes.now pool.now p }
+fn placed_at(tables: &Tables, p: usize, last: Placed) -> Placed
+    requires { last ≡ placed tables.now.nodes.now tables.now.pool.now last.node }
+    ensures { result ≡ placed tables.now.nodes.now tables.now.pool.now p }
 {
     if p == last.node {
         return last;
     }
     Placed {
         node: p,
-        position: position_of(nodes, pool, p),
+        position: position_of(tables, p),
     }
 }
 
 // The cpu at an index of the cpu records and their `reg`s, with its slot. What a list does not have is 0.
-fn named_cpu(cpus: &[u16], regs: &[u64], index: usize, slots: BoardSlots) -> NamedCpu
-    ensures { result ≡ named_cpu cpus.now regs.now index slots }
+fn named_cpu(lists: &Lists, index: usize, slots: BoardSlots) -> NamedCpu
+    ensures { result ≡ named_cpu lists.now.cpus.now lists.now.regs.now index slots }
 {
-    let mut reg: u64 = 0;
-    if index < regs.len() {
-        reg = regs[index];
-    }
+    let reg = lists.regs.get(index).copied().unwrap_or(0);
     NamedCpu {
-        cpu: record_at(cpus, index),
+        cpu: record_at(lists.cpus, index),
         reg,
         slot: slot_by(slots, reg),
     }
@@ -54,24 +48,19 @@ fn named_cpu(cpus: &[u16], regs: &[u64], index: usize, slots: BoardSlots) -> Nam
 pub fn write_rows(rows: &mut [u32], tables: &Tables, lists: &Lists, slots: BoardSlots)
     ensures { rows.new ≡ written (source_in tables.now lists.now slots) rows.old }
 {
-    let count = leaves.len();
-    if rows.len() / ROW_WORDS < count {
+    if rows.len() / ROW_WORDS < lists.leaves.len() {
         return;
     }
     let mut above = Placed {
         node: 0,
-        position: position_of(nodes, pool, 0),
+        position: position_of(tables, 0),
     };
-    let mut k: usize = 0;
-    while k < count {
-        let leaf = leaves[k] as usize;
-        let p = node_word(nodes, leaf, 0);
-        above = placed_at(nodes, pool, p, above);
-        let index = record_at(named, k);
-        let cpu = named_cpu(cpus, regs, index, slots);
-        let row = row_of(nodes, pool, above, leaf, cpu);
-        let start = ROW_WORDS * k;
-        put_row(&mut rows[start..], row);
-        k += 1;
+    // By index, since of what `chunks_exact_mut` lent a proof knows only the length.
+    for (k, leaf) in lists.leaves.iter().enumerate() {
+        let leaf = usize::from(*leaf);
+        above = placed_at(tables, node_word(tables.nodes, leaf, 0), above);
+        let cpu = named_cpu(lists, record_at(lists.named, k), slots);
+        let row = row_of(tables, above, leaf, cpu);
+        put_row(&mut rows[ROW_WORDS * k..], row);
     }
 }

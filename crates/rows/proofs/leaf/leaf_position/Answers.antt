@@ -8,4 +8,4 @@ pub returns-then-keeps_position : goal.returns-then-keeps_position
 returns-then-keeps_position c =
     let kept = sym c.keeps_position.ensures ∙ c.if-keeps_position.true in
     let a = c.args in
-    position_kept a.nodes.now a.pool.now a.leaf c.parent_of.ensures c.requires.name c.requires.above kept
+    position_kept a.tables.now.nodes.now a.tables.now.pool.now a.leaf c.parent_of.ensures c.requires.name c.requires.above kept
