@@ -59,7 +59,8 @@ pub fn write_rows(rows: &mut [u32], tables: &Tables, lists: &Lists, slots: Board
     for (k, leaf) in lists.leaves.iter().enumerate() {
         let leaf = usize::from(*leaf);
         above = placed_at(tables, node_word(tables.nodes, leaf, 0), above);
-        let cpu = named_cpu(lists, record_at(lists.named, k), slots);
+        let index = record_at(lists.named, k);
+        let cpu = named_cpu(lists, index, slots);
         let row = row_of(tables, above, leaf, cpu);
         put_row(&mut rows[ROW_WORDS * k..], row);
     }

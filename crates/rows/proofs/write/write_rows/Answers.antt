@@ -1,15 +1,12 @@
 -- SPDX-License-Identifier: BSD-2-Clause OR GPL-2.0-or-later
 -- `write_rows` writes row after row, each behind those before it. Assumes nothing.
-use mathlib.Core.Path.{◌≡◌, refl, ap, ◌∙◌}
-use Prim.Native.Nat.{◌+◌, ◌*◌, ◌-◌, ◌≤◌, ◌<◌}
+use mathlib.Core.Path.{◌≡◌, refl}
+use Prim.Native.Nat.{◌+◌, ◌*◌, ◌≤◌}
 use native.Mathlib.Omega.{arith}
-use lib.ListN.{length, get_or}
+use lib.ListN.{length}
 use borrow.Author.Tests.{lt-ltb, le-ltb}
-use borrow.Rule.Slice.PartMut.{same_len_mid}
 use Rattle.layout.specs.facts.Row.{row_size}
-use Rattle.tables.proofs.CodePool.{word_zero}
-use Rattle.rows.specs.steps.Position.{placed}
-use Rattle.rows.specs.answers.Write.{Source, source_in, row_number, rows_below, written}
+use Rattle.rows.specs.answers.Write.{source_in, rows_below, written}
 use Rattle.rows.proofs.RowLaws.{number_made, row_more}
 use Rattle.rows.proofs.PositionLaws.{placed_own}
 use Rattle.rows.proofs.write.write_rows.Goals as goal
@@ -29,7 +26,7 @@ loop-k-preserved c =
     let from = source_in c.args.tables.now c.args.lists.now c.args.slots in
     let k = c.loop-k.k in
     let is_of_leaf = rw c.from-leaf.ensures at c.row_of-row.ensures in
-    let made = number_made from k is_of_leaf c.named_cpu-cpu.ensures c.record_at.ensures in
+    let made = number_made from k is_of_leaf c.named_cpu-cpu.ensures c.record_at-index.ensures in
     let room : row_size * k + row_size ≤ length c.loop-k.rows = omega (arith, c.loop-k-test.true) in (
       row_more from c.args.rows.now c.loop-k.rows c.put_row.new.part k c.loop-k.invariant.0 made room c.put_row.ensures,
       placed_own c.args.tables.now.nodes.now c.args.tables.now.pool.now c.placed_at-above.ensures,
