@@ -116,7 +116,8 @@ module _ (t : Tree) (leaves₀ named₀ : List ℕ) where
       pub all_scan : record { fault = clear; count = count } ≡ leaf_scan t
       unfolding leaf_scan
       all_scan =
-          let size : count ≡ length (leaf_list t) = g.counted ∙ sym (list_length (is_leaf t) i) ∙ ap (λ (k : ℕ). length (list_below (is_leaf t) k)) e in
+          let size : count ≡ length (leaf_list t) =
+          g.counted ∙ sym (list_length (is_leaf t) i) ∙ ap (λ (k : ℕ). length (list_below (is_leaf t) k)) e in
           rw (first_none, size)
 
       pub all_left : LeftHere
