@@ -20,20 +20,6 @@ use Rattle.laws.proofs.OverLaws.{over_none, over_length, over_front, over_push}
 use Rattle.cpus.specs.facts.Told.{CpuReading}
 use Rattle.cpus.specs.answers.Numbers.{cpu_reading, unless_seen, listed_fault, first_index, first_record, numbers_over}
 
--- a reading keeps its value and its second place where it is refused
-pub unless_same :
-    (rule : ℕ) (seen : Bool) (q : CpuReading) →
-    ((unless_seen rule seen q).value ≡ q.value) × ((unless_seen rule seen q).second ≡ q.second)
-unless_same rule seen q = go (eqb q.number 0) seen
-  where
-    again : CpuReading
-    again = cpu_reading rule q.second q.value
-
-    go : (a b : Bool) → ((cond a (cond b again q) q).value ≡ q.value) × ((cond a (cond b again q) q).second ≡ q.second)
-    go true true = (refl, refl)
-    go true false = (refl, refl)
-    go false b = (refl, refl)
-
 module _ (r : ℕ → CpuReading) (rule : ℕ) (records before : List ℕ) where
   -- the records that there is room for
   abbrev cut : List ℕ
@@ -81,10 +67,14 @@ module _ (r : ℕ → CpuReading) (rule : ℕ) (records before : List ℕ) where
     h.held ∙ ap (λ (n : ℕ). laid_over (numbers n) before) (sym p ∙ ap (members_passed cut) e),
   )
 
-  -- the record at index k, and the reading x that is made of the numbers gathered
-  module _ (k : ℕ) {values : List ℕ} {x : CpuReading}
-      (h : Pass k values) (inside : k < length records) (room : k < length values)
-      (made : x ≡ unless_seen rule (is_among (take k values) (r (get_or records k 0)).value) (r (get_or records k 0))) where
+  -- the record at index k, what is read of it, and that refused where its number was gathered
+  module _ (k : ℕ) {values : List ℕ} (h : Pass k values) (inside : k < length records) (room : k < length values) where
+    first : CpuReading
+    first = r (get_or records k 0)
+
+    checked : CpuReading
+    checked = unless_seen rule (is_among (take k values) first.value) first
+
     fits : (k < length cut) × (k < length before)
     fits = omega (arith, length-take (length before) records, pass_length h)
 
@@ -96,32 +86,33 @@ module _ (r : ℕ → CpuReading) (rule : ℕ) (records before : List ℕ) where
         let long = numbers_length k (omega (arith, fits)) in
         ap (take k) h.held ∙ ap (λ (n : ℕ). take n (laid_over (numbers k) before)) (sym long) ∙ over_front (numbers k) before (omega (arith, fits))
 
-    pass_fault : x.number ≡ listed_fault r rule cut k
-    unfolding listed_fault
-    pass_fault = ap (λ (q : CpuReading). q.number) made ∙ rw (front, ← at)
+    pass_fault : {number : ℕ} → number ≡ checked.number → number ≡ listed_fault r rule cut k
+    unfolding listed_fault first checked
+    pass_fault made = made ∙ rw (front, ← at)
 
-    pub pass_next : x.number ≡ 0 → Pass (k + 1) (set values k x.value)
-    pass_next z =
-        let value : x.value ≡ (r (get_or cut k 0)).value =
-        ap (λ (q : CpuReading). q.value) made
-        ∙ (unless_same rule (is_among (take k values) (r (get_or records k 0)).value) (r (get_or records k 0))).0
-        ∙ ap (λ (i : ℕ). (r i).value) (sym at) in
+    pub pass_next : {number value : ℕ} → number ≡ checked.number → value ≡ first.value → number ≡ 0 → Pass (k + 1) (set values k value)
+    unfolding first
+    pass_next made same z =
         record {
           within = omega (arith, fits);
-          none = clear_more _ k h.none pass_fault z;
+          none = clear_more _ k h.none (pass_fault made) z;
           held =
-              ap₂ (λ (l : List ℕ) (v : ℕ). set l k v) h.held value
+              ap₂ (λ (l : List ℕ) (v : ℕ). set l k v) h.held (same ∙ ap (λ (i : ℕ). (r i).value) (sym at))
               ∙ over_push (numbers k) before _ k (numbers_length k (omega (arith, fits))) fits.1
               ∙ ap (λ (l : List ℕ). laid_over l before) (numbers_more k fits.0);
         }
 
-    pub pass_told : (x.number ≡ 0 → ⊥) → Told (record { number = x.number; place = get_or records k 0; second = x.second }) values
-    pass_told ne =
-        let second : x.second ≡ (r (get_or records k 0)).second =
-        ap (λ (q : CpuReading). q.second) made
-        ∙ (unless_same rule (is_among (take k values) (r (get_or records k 0)).value) (r (get_or records k 0))).1 in
-        rw (second, ← at, ← second_at (λ i. (r i).second) x.number (get_or cut k 0) ne)
-        (told_index (at_fault (listed_fault r rule cut) k (length cut) fits.0 h.none pass_fault ne) (rw (ne_eqb x.number 0 ne)) h)
+    pub pass_told :
+        (fault : Fault) →
+        fault.number ≡ checked.number →
+        fault.place ≡ get_or records k 0 →
+        fault.second ≡ first.second →
+        (fault.number ≡ 0 → ⊥) →
+        Told fault values
+    unfolding first
+    pass_told fault made place second ne =
+        rw (place ∙ sym at, second, ← at, ← second_at (λ i. (r i).second) fault.number (get_or cut k 0) ne)
+        (told_index (at_fault (listed_fault r rule cut) k (length cut) fits.0 h.none (pass_fault made) ne) (rw (ne_eqb fault.number 0 ne)) h)
 
   pub pass_end : (k : ℕ) {values : List ℕ} → Pass k values → min (length before) (length records) ≤ k → Told clear values
   pass_end k h le =

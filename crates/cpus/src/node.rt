@@ -19,8 +19,6 @@ fn is_cpu_name(pool: &[u8], offset: usize, len: usize) -> bool
 pub fn is_cpu(tables: &Tables, i: usize) -> bool
     ensures { result ≡ is_cpu tables.now.nodes.now tables.now.pool.now i }
 {
-    if is_child(nodes, 0, i) {
-        return is_cpu_name(pool, node_word(nodes, i, 1), node_word(nodes, i, 2));
-    }
-    false
+    let nodes = tables.nodes;
+    is_child(nodes, 0, i) && is_cpu_name(tables.pool, node_word(nodes, i, 1), node_word(nodes, i, 2))
 }

@@ -1,7 +1,9 @@
 // SPDX-License-Identifier: BSD-2-Clause OR GPL-2.0-or-later
 // One pass over a list of cpu records that gathers a number of each: rules 11 to 13, or rule 17.
-ghost use Rattle.std.specs.Prelude.{◌≡◌, length, take};
-ghost use Rattle.laws.specs.answers.Told.{told_in};
+ghost use Rattle.std.specs.Prelude.{◌≡◌, IfErr, IfOk, length, take};
+ghost use Rattle.laws.specs.facts.Told.{number_of};
+ghost use Rattle.laws.specs.answers.Told.{second_of, told_in};
+ghost use Rattle.cpus.specs.answers.Told.{reading_told};
 ghost use Rattle.laws.specs.answers.Search.{is_among};
 ghost use Rattle.cpus.specs.answers.Numbers.{reading_at, repeat_rule, unless_seen, first_record, numbers_over};
 
@@ -12,39 +14,38 @@ use property_index::INDEX_WORDS;
 use tables::Tables;
 
 // The rule that a repeated number breaks.
-fn repeat_rule(wanted: CpuNumbers) -> u32
-    ensures { result ≡ repeat_rule wanted }
+fn repeat_rule(wanted: CpuNumbers) -> Rule
+    ensures { number_of result ≡ repeat_rule wanted }
 {
     match wanted {
-        CpuNumbers::Regs { cells: _, width: _ } => rules::DUPLICATE_CPU_REG,
-        CpuNumbers::Phandles => rules::CPU_PHANDLE,
+        CpuNumbers::Regs { cells: _, width: _ } => Rule::DuplicateCpuReg,
+        CpuNumbers::Phandles => Rule::CpuPhandle,
     }
 }
 
-// What cpu record i breaks, 0 where nothing, its second place and its number, given those of the earlier cpu records.
+// The number of cpu record i, or what it breaks, given the numbers of the earlier cpu records.
 fn next_reading(
     wanted: CpuNumbers,
-    props: &[u32],
-    pool: &[u8],
+    tables: &Tables,
     index: &[u16; INDEX_WORDS],
     earlier: &[u64],
     i: usize,
-) -> CpuReading
-    ensures { let first = reading_at wanted props.now pool.now index.now i in
-        result ≡ unless_seen (repeat_rule wanted) (is_among earlier.now first.value) first }
+) -> Result<CpuNumber, Refusal>
+    ensures number { let first = reading_at wanted tables.now.props.now tables.now.pool.now index.now i in
+        (reading_told result).number ≡ (unless_seen (repeat_rule wanted) (is_among earlier.now first.value) first).number }
+    ensures second { let first = reading_at wanted tables.now.props.now tables.now.pool.now index.now i in
+        IfErr result (λ refusal. second_of refusal.property ≡ first.second) }
+    ensures value { let first = reading_at wanted tables.now.props.now tables.now.pool.now index.now i in
+        IfOk result (λ found. found.value ≡ first.value) }
+    ensures place { IfErr result (λ refusal. refusal.place ≡ i) }
 {
-    let first = read_record(wanted, props, pool, index, i);
-    if first.number != 0 {
-        return first;
+    let found = read_record(wanted, tables, index, i)?;
+    if is_among(earlier, found.value) {
+        let rule = repeat_rule(wanted);
+        let property = found.property;
+        return Err(Refusal { rule, place: i, property });
     }
-    if is_among(earlier, first.value) {
-        return CpuReading {
-            number: repeat_rule(wanted),
-            second: first.second,
-            value: first.value,
-        };
-    }
-    first
+    Ok(found)
 }
 
 // The numbers of cpu records, as many as there is room for, up to the first that breaks a rule.
@@ -62,19 +63,11 @@ pub fn read_numbers(
         let cut = take (length values.old) records.now in
         values.new ≡ numbers_over read (repeat_rule wanted) cut values.old }
 {
-    let mut k: usize = 0;
-    while k < values.len() && k < records.len() {
-        let i = records[k] as usize;
-        let reading = next_reading(wanted, props, pool, index, &values[..k], i);
-        if reading.number != 0 {
-            return Fault {
-                number: reading.number,
-                place: i,
-                second: reading.second,
-            };
-        }
-        values[k] = reading.value;
-        k += 1;
+    let n = records.len().min(values.len());
+    for k in 0..n {
+        let i = usize::from(records[k]);
+        let found = next_reading(wanted, tables, index, &values[..k], i)?;
+        values[k] = found.value;
     }
-    CLEAR
+    Ok(())
 }

@@ -1,7 +1,7 @@
 // SPDX-License-Identifier: BSD-2-Clause OR GPL-2.0-or-later
 // A property's value as a number of one cell or of two.
 ghost use Rattle.std.specs.Prelude.{◌≡◌, ◌+◌, ◌≤◌, length};
-ghost use Rattle.cpus.specs.answers.Cell.{size_of, value_sized, cells_at, value_in, cell_in, is_number};
+ghost use Rattle.cpus.specs.answers.Cell.{size_of, value_sized, cells_at, value_in, cell_in};
 
 use crate::Cells;
 use tables::{Found, cell_at, is_inside};
@@ -21,10 +21,7 @@ fn has_cells(pool: &[u8], cells: Cells, property: Found) -> bool
     ensures { result ≡ value_sized pool.now (size_of cells) property }
 {
     let size = size_of(cells);
-    if property.len != size {
-        return false;
-    }
-    is_inside(pool.len(), property.offset, size)
+    property.len == size && is_inside(pool.len(), property.offset, size)
 }
 
 // The number of the cells from `at` on: the only cell, or the upper and the lower.
@@ -43,13 +40,11 @@ fn cells_at(pool: &[u8], cells: Cells, at: usize) -> u64
 pub fn value_in(pool: &[u8], cells: Cells, found: Option<Found>) -> Option<u64>
     ensures { result ≡ value_in pool.now cells found }
 {
-    let Lookup::At(property) = found else {
-        return Value::Invalid;
-    };
+    let property = found?;
     if has_cells(pool, cells, property) {
-        return Value::Number(cells_at(pool, cells, property.offset));
+        return Some(cells_at(pool, cells, property.offset));
     }
-    Value::Invalid
+    None
 }
 
 // The cell that is the value of a property, if it was found and has four bytes.
@@ -57,14 +52,4 @@ pub fn cell_in(pool: &[u8], found: Option<Found>) -> Option<u64>
     ensures { result ≡ cell_in pool.now found }
 {
     value_in(pool, Cells::One, found)
-}
-
-// Whether a value is a given number.
-pub fn is_number(value: Value, number: u64) -> bool
-    ensures { result ≡ is_number value number }
-{
-    let Value::Number(n) = value else {
-        return false;
-    };
-    n == number
 }

@@ -1,17 +1,19 @@
 // SPDX-License-Identifier: BSD-2-Clause OR GPL-2.0-or-later
 // Rules 9, 10, 36 and 37: the root record and the number of cpu records.
-ghost use Rattle.std.specs.Prelude.{◌≡◌, min, set};
-ghost use Rattle.laws.specs.answers.Told.{number_in, told_in};
+ghost use Rattle.std.specs.Prelude.{◌≡◌, ℕ, min, set};
+ghost use Rattle.laws.specs.facts.Told.{number_of};
+ghost use Rattle.laws.specs.answers.Told.{number_in, told_in, told_of};
 ghost use Rattle.cpus.specs.answers.Told.{root_told};
 ghost use Rattle.laws.specs.answers.Search.{count_below, list_below};
 ghost use Rattle.laws.specs.answers.Listed.{laid_over};
 ghost use Rattle.tables.specs.facts.Board.{board_of, node_count};
-ghost use Rattle.tables.specs.answers.Lookup.{record_of};
+ghost use Rattle.tables.specs.facts.Binding.{address_cells_key};
+ghost use Rattle.tables.specs.answers.Lookup.{lookup, record_of};
 ghost use Rattle.laws.specs.facts.Limits.{max_nodes};
-ghost use Rattle.cpus.specs.answers.Check.{is_cpu, cells_for, cells_of, root_reading, count_fault};
+ghost use Rattle.cpus.specs.answers.Check.{is_cpu, cells_for, address_cells, root_fault, root_reading, count_fault};
 
 use crate::node::is_cpu;
-use crate::property::{cell_in, is_number};
+use crate::property::cell_in;
 use crate::{Cells, RootReading};
 use laws::limits::{MAX_CPUS, MAX_NODES};
 use laws::{Refusal, Rule};
@@ -19,68 +21,53 @@ use lookup::find_property;
 use tables::{Found, Tables, boards, name_is, record_of};
 
 // What `#address-cells` gives a board of a width: one cell, or on 64-bit ARM two.
-fn cells_for(width: u32, value: Value) -> RootCells
+fn cells_for(width: u32, value: Option<u64>) -> Option<Cells>
     ensures { result ≡ cells_for width value }
 {
-    let Value::Number(n) = value else {
-        return RootCells::Broken;
-    };
-    if n == 1 {
-        return RootCells::Are(Cells::One);
-    }
-    if n != 2 {
-        return RootCells::Broken;
-    }
-    if width != boards::ARM64 {
-        return RootCells::Broken;
-    }
-    RootCells::Are(Cells::Two)
-}
-
-// The cells of a `reg`; one where `#address-cells` gives none.
-fn cells_of(allowed: RootCells) -> Cells
-    ensures { result ≡ cells_of allowed }
-{
-    match allowed {
-        RootCells::Are(cells) => cells,
-        RootCells::Broken => Cells::One,
+    match value {
+        Some(1) => Some(Cells::One),
+        Some(2) if width == boards::ARM64 => Some(Cells::Two),
+        _ => None,
     }
 }
 
-// What is told of record 0, of one of its properties.
-fn told_of(number: u32, property: Lookup) -> Fault
-    ensures { result ≡ record { number = number; place = 0; second = record_of property } }
+// A rule that record 0 breaks, told of one of its properties.
+fn refusal_of(rule: Rule, property: Option<Found>) -> Refusal
+    ensures { told_of result ≡ record { number = number_of rule; place = 0; second = record_of property } }
 {
-    Fault {
-        number,
+    Refusal {
+        rule,
         place: 0,
-        second: record_of(property),
+        property: record_of(property),
     }
+}
+
+// The first of rules 9, 36 and 37 that is broken, given `#address-cells` and what it allows.
+fn check_root(tables: &Tables, address: Option<Found>, allowed: Option<Cells>) -> Result<(), Refusal>
+    ensures { let t = tables.now in (width : ℕ) →
+        address ≡ lookup t.props.now t.pool.now 0 address_cells_key → allowed ≡ address_cells (board_of width t) →
+        told_in result ≡ root_fault (board_of width t) }
+{
+    if !name_is(tables, 0, b"cpus") {
+        return Err(Rule::CpusNode.at(0));
+    }
+    allowed.ok_or(refusal_of(Rule::CpusAddressCells, address))?;
+    let size = find_property(tables.props, tables.pool, 0, b"#size-cells");
+    if cell_in(tables.pool, size) != Some(0) {
+        return Err(refusal_of(Rule::CpusSizeCells, size));
+    }
+    Ok(())
 }
 
 // Reads record 0: rules 9, 36 and 37, and the cells of the board's `reg`s.
 pub fn read_root(width: u32, tables: &Tables) -> RootReading
     ensures { root_told result ≡ root_reading (board_of width tables.now) }
 {
-    let address = find_property(props, pool, 0, b"#address-cells");
-    let allowed = cells_for(width, cell_in(pool, address));
-    let cells = cells_of(allowed);
-    if !name_is(nodes, pool, 0, b"cpus") {
-        let fault = told_of(rules::CPUS_NODE, Lookup::Missing);
-        return RootReading { fault, cells };
-    }
-    let RootCells::Are(_) = allowed else {
-        let fault = told_of(rules::CPUS_ADDRESS_CELLS, address);
-        return RootReading { fault, cells };
-    };
-    let size = find_property(props, pool, 0, b"#size-cells");
-    if !is_number(cell_in(pool, size), 0) {
-        let fault = told_of(rules::CPUS_SIZE_CELLS, size);
-        return RootReading { fault, cells };
-    }
+    let address = find_property(tables.props, tables.pool, 0, b"#address-cells");
+    let allowed = cells_for(width, cell_in(tables.pool, address));
     RootReading {
-        fault: CLEAR,
-        cells,
+        checked: check_root(tables, address, allowed),
+        cells: allowed.unwrap_or(Cells::One),
     }
 }
 
@@ -88,8 +75,8 @@ pub fn read_root(width: u32, tables: &Tables) -> RootReading
 fn put_record(records: &mut [u16], k: usize, i: u16)
     ensures { records.new ≡ set records.old k i }
 {
-    if k < records.len() {
-        records[k] = i;
+    if let Some(record) = records.get_mut(k) {
+        *record = i;
     }
 }
 
@@ -100,30 +87,23 @@ pub fn list_cpus(tables: &Tables, records: &mut [u16; MAX_CPUS]) -> usize
     ensures records { let t = tables.now in
         records.new ≡ laid_over (list_below (is_cpu t.nodes.now t.pool.now) (min (node_count t.nodes.now) max_nodes)) records.old }
 {
-    let n = at_most(nodes.len() / 3, MAX_NODES);
+    let n = (tables.nodes.len() / 3).min(MAX_NODES);
     let mut count: usize = 0;
-    let mut i: usize = 0;
-    while i < n {
-        if !is_cpu(nodes, pool, i) {
-            i += 1;
-            continue;
+    for i in 0..n {
+        if is_cpu(tables, i) {
+            put_record(records, count, i as u16);
+            count += 1;
         }
-        put_record(records, count, i as u16);
-        count += 1;
-        i += 1;
     }
     count
 }
 
-// 10 where there are no cpu records or too many, or 0.
+// Rule 10: there is a cpu record, and not too many.
 pub fn count_fault(count: usize) -> Result<(), Rule>
     ensures { number_in result ≡ count_fault count }
 {
-    if count == 0 {
-        return rules::CPU_COUNT;
+    match count {
+        1..=MAX_CPUS => Ok(()),
+        _ => Err(Rule::CpuCount),
     }
-    if MAX_CPUS < count {
-        return rules::CPU_COUNT;
-    }
-    0
 }

@@ -10,6 +10,6 @@ returns-then-is_child c =
     rw (sym c.is_child.ensures ∙ c.if-is_child.true, ← c.node_word.ensures, ← c.node_word-then-is_child.ensures)
     c.is_cpu_name.ensures
 
-pub returns : goal.returns
+pub returns-else-is_child : goal.returns-else-is_child
 unfolding is_cpu
-returns c = rw (sym c.is_child.ensures ∙ c.if-is_child.false)
+returns-else-is_child c = rw (sym c.is_child.ensures ∙ c.if-is_child.false) c.if-is_child.false

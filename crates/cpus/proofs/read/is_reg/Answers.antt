@@ -8,6 +8,6 @@ pub returns-then-width-eq-RISCV : goal.returns-then-width-eq-RISCV
 unfolding is_reg
 returns-then-width-eq-RISCV c = rw (eq-eqb _ _ c.if-width-eq-RISCV.true)
 
-pub returns : goal.returns
+pub returns-else-width-eq-RISCV : goal.returns-else-width-eq-RISCV
 unfolding is_reg
-returns c = rw (ne_eqb _ _ c.if-width-eq-RISCV.false) c.is_affine.ensures
+returns-else-width-eq-RISCV c = rw (ne_eqb _ _ c.if-width-eq-RISCV.false) c.is_affine.ensures
