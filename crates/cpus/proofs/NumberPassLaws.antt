@@ -68,18 +68,18 @@ module _ (r : ℕ → CpuReading) (rule : ℕ) (records before : List ℕ) where
   )
 
   -- the record at index k, what is read of it, and that refused where its number was gathered
-  module _ (k : ℕ) {values : List ℕ} (h : Pass k values) (inside : k < length records) (room : k < length values) where
-    first : CpuReading
-    first = r (get_or records k 0)
+  module _ (k i : ℕ) {values : List ℕ} (is : i ≡ get_or records k 0) (h : Pass k values) (inside : k < length records) (room : k < length values) where
+    abbrev first : CpuReading
+    first = r i
 
-    checked : CpuReading
+    abbrev checked : CpuReading
     checked = unless_seen rule (is_among (take k values) first.value) first
 
     fits : (k < length cut) × (k < length before)
     fits = omega (arith, length-take (length before) records, pass_length h)
 
-    at : get_or cut k 0 ≡ get_or records k 0
-    at = get_or-take (length before) records k 0 fits.1
+    at : get_or cut k 0 ≡ i
+    at = get_or-take (length before) records k 0 fits.1 ∙ sym is
 
     front : take k values ≡ numbers k
     front =
@@ -87,17 +87,19 @@ module _ (r : ℕ → CpuReading) (rule : ℕ) (records before : List ℕ) where
         ap (take k) h.held ∙ ap (λ (n : ℕ). take n (laid_over (numbers k) before)) (sym long) ∙ over_front (numbers k) before (omega (arith, fits))
 
     pass_fault : {number : ℕ} → number ≡ checked.number → number ≡ listed_fault r rule cut k
-    unfolding listed_fault first checked
-    pass_fault made = made ∙ rw (front, ← at)
+    unfolding listed_fault
+    pass_fault made =
+        made
+        ∙ ap (λ (j : ℕ). (unless_seen rule (is_among (take k values) (r j).value) (r j)).number) (sym at)
+        ∙ ap (λ (l : List ℕ). (unless_seen rule (is_among l (r (get_or cut k 0)).value) (r (get_or cut k 0))).number) front
 
     pub pass_next : {number value : ℕ} → number ≡ checked.number → value ≡ first.value → number ≡ 0 → Pass (k + 1) (set values k value)
-    unfolding first
     pass_next made same z =
         record {
           within = omega (arith, fits);
           none = clear_more _ k h.none (pass_fault made) z;
           held =
-              ap₂ (λ (l : List ℕ) (v : ℕ). set l k v) h.held (same ∙ ap (λ (i : ℕ). (r i).value) (sym at))
+              ap₂ (λ (l : List ℕ) (v : ℕ). set l k v) h.held (same ∙ ap (λ (j : ℕ). (r j).value) (sym at))
               ∙ over_push (numbers k) before _ k (numbers_length k (omega (arith, fits))) fits.1
               ∙ ap (λ (l : List ℕ). laid_over l before) (numbers_more k fits.0);
         }
@@ -105,11 +107,10 @@ module _ (r : ℕ → CpuReading) (rule : ℕ) (records before : List ℕ) where
     pub pass_told :
         (fault : Fault) →
         fault.number ≡ checked.number →
-        fault.place ≡ get_or records k 0 →
+        fault.place ≡ i →
         fault.second ≡ first.second →
         (fault.number ≡ 0 → ⊥) →
         Told fault values
-    unfolding first
     pass_told fault made place second ne =
         rw (place ∙ sym at, second, ← at, ← second_at (λ i. (r i).second) fault.number (get_or cut k 0) ne)
         (told_index (at_fault (listed_fault r rule cut) k (length cut) fits.0 h.none (pass_fault made) ne) (rw (ne_eqb fault.number 0 ne)) h)
