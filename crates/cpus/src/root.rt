@@ -75,8 +75,9 @@ pub fn read_root(width: u32, tables: &Tables) -> RootReading
 fn put_record(records: &mut [u16], k: usize, i: u16)
     ensures { records.new ≡ set records.old k i }
 {
-    if let Some(record) = records.get_mut(k) {
-        *record = i;
+    // With `get_mut` the proof did not close: of the elements behind it a proof knows nothing.
+    if k < records.len() {
+        records[k] = i;
     }
 }
 
