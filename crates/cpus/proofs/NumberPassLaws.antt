@@ -20,6 +20,20 @@ use Rattle.laws.proofs.OverLaws.{over_none, over_length, over_front, over_push}
 use Rattle.cpus.specs.facts.Told.{CpuReading}
 use Rattle.cpus.specs.answers.Numbers.{cpu_reading, unless_seen, listed_fault, first_index, first_record, numbers_over}
 
+-- a reading keeps its value and its second place where it is refused
+pub unless_same :
+    (rule : ℕ) (seen : Bool) (q : CpuReading) →
+    ((unless_seen rule seen q).value ≡ q.value) × ((unless_seen rule seen q).second ≡ q.second)
+unless_same rule seen q = go (eqb q.number 0) seen
+  where
+    again : CpuReading
+    again = cpu_reading rule q.second q.value
+
+    go : (a b : Bool) → ((cond a (cond b again q) q).value ≡ q.value) × ((cond a (cond b again q) q).second ≡ q.second)
+    go true true = (refl, refl)
+    go true false = (refl, refl)
+    go false b = (refl, refl)
+
 module _ (r : ℕ → CpuReading) (rule : ℕ) (records before : List ℕ) where
   -- the records that there is room for
   abbrev cut : List ℕ

@@ -20,5 +20,6 @@ pub fn is_cpu(tables: &Tables, i: usize) -> bool
     ensures { result ≡ is_cpu tables.now.nodes.now tables.now.pool.now i }
 {
     let nodes = tables.nodes;
-    is_child(nodes, 0, i) && is_cpu_name(tables.pool, node_word(nodes, i, 1), node_word(nodes, i, 2))
+    is_child(nodes, 0, i)
+        && is_cpu_name(tables.pool, node_word(nodes, i, 1), node_word(nodes, i, 2))
 }

@@ -43,7 +43,11 @@ fn next_reading(
     if is_among(earlier, found.value) {
         let rule = repeat_rule(wanted);
         let property = found.property;
-        return Err(Refusal { rule, place: i, property });
+        return Err(Refusal {
+            rule,
+            place: i,
+            property,
+        });
     }
     Ok(found)
 }

@@ -48,14 +48,25 @@ fn read_reg(
     let kind = find_indexed(tables.props, index, i, Key::DeviceType);
     if cell_in(tables.pool, kind) != Some(binding::CPU_STRING) {
         let property = record_of(kind);
-        return Err(Refusal { rule: Rule::CpuDeviceType, place: i, property });
+        return Err(Refusal {
+            rule: Rule::CpuDeviceType,
+            place: i,
+            property,
+        });
     }
     let reg = find_indexed(tables.props, index, i, Key::Reg);
     let Some(value) = reg_in(width, value_in(tables.pool, cells, reg)) else {
         let property = record_of(reg);
-        return Err(Refusal { rule: Rule::CpuReg, place: i, property });
+        return Err(Refusal {
+            rule: Rule::CpuReg,
+            place: i,
+            property,
+        });
     };
-    Ok(CpuNumber { value, property: None })
+    Ok(CpuNumber {
+        value,
+        property: None,
+    })
 }
 
 // The phandle of a cpu record, of whose repeat the `phandle` is told: rule 17.
@@ -66,7 +77,11 @@ fn read_phandle(tables: &Tables, index: &[u16; INDEX_WORDS], i: usize) -> Result
     let found = find_indexed(tables.props, index, i, Key::Phandle);
     let property = record_of(found);
     let Some(value) = phandle_in(cell_in(tables.pool, found)) else {
-        return Err(Refusal { rule: Rule::CpuPhandle, place: i, property });
+        return Err(Refusal {
+            rule: Rule::CpuPhandle,
+            place: i,
+            property,
+        });
     };
     Ok(CpuNumber { value, property })
 }

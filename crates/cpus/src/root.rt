@@ -43,7 +43,11 @@ fn refusal_of(rule: Rule, property: Option<Found>) -> Refusal
 }
 
 // The first of rules 9, 36 and 37 that is broken, given `#address-cells` and what it allows.
-fn check_root(tables: &Tables, address: Option<Found>, allowed: Option<Cells>) -> Result<(), Refusal>
+fn check_root(
+    tables: &Tables,
+    address: Option<Found>,
+    allowed: Option<Cells>,
+) -> Result<(), Refusal>
     ensures { let t = tables.now in (width : ℕ) →
         address ≡ lookup t.props.now t.pool.now 0 address_cells_key → allowed ≡ address_cells (board_of width t) →
         told_in result ≡ root_fault (board_of width t) }

@@ -21,8 +21,8 @@ returns-in_err-found c =
     let p = err_from_is_err_and c.from_residual.result c.from_residual.ensures.1 in
     let read = c.in_err-found.ensures in
     let told =
-        pass_told _ _ _ _ _ _ c.from-i.ensures c.loop-k.invariant (omega (arith, c.min-n.ensures)) (omega (arith, c.min-n.ensures)) (told_of c.in_err-found.field-0.0)
-        read.number read.place read.second (rule_counts _) in
+    pass_told _ _ _ _ _ _ c.from-i.ensures c.loop-k.invariant (omega (arith, c.min-n.ensures)) (omega (arith, c.min-n.ensures)) (told_of c.in_err-found.field-0.0)
+    read.number read.place read.second (rule_counts _) in
     rw (p.1, p.2) (record { fault = told.0; values = told.1 })
 
 pub returns : goal.returns

@@ -26,18 +26,18 @@ pub loop-i-preserved : goal.loop-i-preserved
 loop-i-preserved c =
     let before = c.loop-i.invariant in
     elim c.if-is_cpu.branch [
-      then-is_cpu w ↦
-        let yes = sym c.is_cpu.ensures ∙ w.if-is_cpu.true in
-        record {
-          count = w.count-is ∙ ap (λ (n : ℕ). n + 1) before.count ∙ sym (count_yes _ _ yes);
-          listed = w.records-is ∙ w.put_record.ensures ∙ listed_yes _ _ _ before.count before.listed yes;
-        }
+      | then-is_cpu w ↦
+          let yes = sym c.is_cpu.ensures ∙ w.if-is_cpu.true in
+          record {
+            count = w.count-is ∙ ap (λ (n : ℕ). n + 1) before.count ∙ sym (count_yes _ _ yes);
+            listed = w.records-is ∙ w.put_record.ensures ∙ listed_yes _ _ _ before.count before.listed yes;
+          }
       | else-is_cpu w ↦
-        let no = sym c.is_cpu.ensures ∙ w.if-is_cpu.false in
-        record {
-          count = w.count-is ∙ before.count ∙ sym (count_no _ _ no);
-          listed = w.records-is ∙ listed_no _ _ _ before.count before.listed no;
-        }
+          let no = sym c.is_cpu.ensures ∙ w.if-is_cpu.false in
+          record {
+            count = w.count-is ∙ before.count ∙ sym (count_no _ _ no);
+            listed = w.records-is ∙ listed_no _ _ _ before.count before.listed no;
+          }
     ]
 
 pub returns : goal.returns
