@@ -2,7 +2,7 @@
 -- Laws that belong to no one function.
 pub mod CpuMeans
 pub mod PairMeans
-pub mod NumberTestLaws
+pub mod OptionLaws
 pub mod ValueMeans
 pub mod RegMeans
 pub mod FaultMeans

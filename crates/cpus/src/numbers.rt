@@ -41,12 +41,10 @@ fn next_reading(
 {
     let found = read_record(wanted, tables, index, i)?;
     if is_among(earlier, found.value) {
-        let rule = repeat_rule(wanted);
-        let property = found.property;
         return Err(Refusal {
-            rule,
+            rule: repeat_rule(wanted),
             place: i,
-            property,
+            property: found.property,
         });
     }
     Ok(found)

@@ -1,10 +1,14 @@
 // SPDX-License-Identifier: BSD-2-Clause OR GPL-2.0-or-later
-// A property's value as a number of one cell or of two.
+// A property's value as a number of one cell or of two, and what is told of a property.
 ghost use Rattle.std.specs.Prelude.{◌≡◌, ◌+◌, ◌≤◌, length};
+ghost use Rattle.laws.specs.facts.Told.{number_of};
+ghost use Rattle.laws.specs.answers.Told.{told_of};
+ghost use Rattle.tables.specs.answers.Lookup.{record_of};
 ghost use Rattle.cpus.specs.answers.Cell.{size_of, value_sized, cells_at, value_in, cell_in};
 
 use crate::Cells;
-use tables::{Found, cell_at, is_inside};
+use laws::{Refusal, Rule};
+use tables::{Found, cell_at, is_inside, record_of};
 
 // The bytes of one cell, or of two.
 fn size_of(cells: Cells) -> usize
@@ -52,4 +56,15 @@ pub fn cell_in(pool: &[u8], found: Option<Found>) -> Option<u64>
     ensures { result ≡ cell_in pool.now found }
 {
     value_in(pool, Cells::One, found)
+}
+
+// A rule that is broken at a place, told of a property.
+pub fn refusal_of(rule: Rule, place: usize, found: Option<Found>) -> Refusal
+    ensures { told_of result ≡ record { number = number_of rule; place = place; second = record_of found } }
+{
+    Refusal {
+        rule,
+        place,
+        property: record_of(found),
+    }
 }

@@ -6,7 +6,7 @@ ghost use Rattle.cpus.specs.answers.Cell.{is_reg, reg_in, phandle_in};
 ghost use Rattle.cpus.specs.declared.CpuNumbers.TheVariants.{Regs, Phandles};
 ghost use Rattle.cpus.specs.answers.Numbers.{reading_at};
 
-use crate::property::{cell_in, value_in};
+use crate::property::{cell_in, refusal_of, value_in};
 use crate::{Cells, CpuNumber, CpuNumbers};
 use affinity::is_affine;
 use laws::{Refusal, Rule};
@@ -47,22 +47,11 @@ fn read_reg(
 {
     let kind = find_indexed(tables.props, index, i, Key::DeviceType);
     if cell_in(tables.pool, kind) != Some(binding::CPU_STRING) {
-        let property = record_of(kind);
-        return Err(Refusal {
-            rule: Rule::CpuDeviceType,
-            place: i,
-            property,
-        });
+        return Err(refusal_of(Rule::CpuDeviceType, i, kind));
     }
     let reg = find_indexed(tables.props, index, i, Key::Reg);
-    let Some(value) = reg_in(width, value_in(tables.pool, cells, reg)) else {
-        let property = record_of(reg);
-        return Err(Refusal {
-            rule: Rule::CpuReg,
-            place: i,
-            property,
-        });
-    };
+    let number = reg_in(width, value_in(tables.pool, cells, reg));
+    let value = number.ok_or(refusal_of(Rule::CpuReg, i, reg))?;
     Ok(CpuNumber {
         value,
         property: None,
@@ -75,15 +64,12 @@ fn read_phandle(tables: &Tables, index: &[u16; INDEX_WORDS], i: usize) -> Result
     ensures place { IfErr result (λ refusal. refusal.place ≡ i) }
 {
     let found = find_indexed(tables.props, index, i, Key::Phandle);
-    let property = record_of(found);
-    let Some(value) = phandle_in(cell_in(tables.pool, found)) else {
-        return Err(Refusal {
-            rule: Rule::CpuPhandle,
-            place: i,
-            property,
-        });
-    };
-    Ok(CpuNumber { value, property })
+    let phandle = phandle_in(cell_in(tables.pool, found));
+    let value = phandle.ok_or(refusal_of(Rule::CpuPhandle, i, found))?;
+    Ok(CpuNumber {
+        value,
+        property: record_of(found),
+    })
 }
 
 // The number of a cpu record, or what the record alone breaks.

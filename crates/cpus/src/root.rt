@@ -1,24 +1,23 @@
 // SPDX-License-Identifier: BSD-2-Clause OR GPL-2.0-or-later
 // Rules 9, 10, 36 and 37: the root record and the number of cpu records.
 ghost use Rattle.std.specs.Prelude.{◌≡◌, ℕ, min, set};
-ghost use Rattle.laws.specs.facts.Told.{number_of};
-ghost use Rattle.laws.specs.answers.Told.{number_in, told_in, told_of};
+ghost use Rattle.laws.specs.answers.Told.{number_in, told_in};
 ghost use Rattle.cpus.specs.answers.Told.{root_told};
 ghost use Rattle.laws.specs.answers.Search.{count_below, list_below};
 ghost use Rattle.laws.specs.answers.Listed.{laid_over};
 ghost use Rattle.tables.specs.facts.Board.{board_of, node_count};
 ghost use Rattle.tables.specs.facts.Binding.{address_cells_key};
-ghost use Rattle.tables.specs.answers.Lookup.{lookup, record_of};
+ghost use Rattle.tables.specs.answers.Lookup.{lookup};
 ghost use Rattle.laws.specs.facts.Limits.{max_nodes};
 ghost use Rattle.cpus.specs.answers.Check.{is_cpu, cells_for, address_cells, root_fault, root_reading, count_fault};
 
 use crate::node::is_cpu;
-use crate::property::cell_in;
+use crate::property::{cell_in, refusal_of};
 use crate::{Cells, RootReading};
 use laws::limits::{MAX_CPUS, MAX_NODES};
 use laws::{Refusal, Rule};
 use lookup::find_property;
-use tables::{Found, Tables, boards, name_is, record_of};
+use tables::{Found, Tables, boards, name_is};
 
 // What `#address-cells` gives a board of a width: one cell, or on 64-bit ARM two.
 fn cells_for(width: u32, value: Option<u64>) -> Option<Cells>
@@ -28,17 +27,6 @@ fn cells_for(width: u32, value: Option<u64>) -> Option<Cells>
         Some(1) => Some(Cells::One),
         Some(2) if width == boards::ARM64 => Some(Cells::Two),
         _ => None,
-    }
-}
-
-// A rule that record 0 breaks, told of one of its properties.
-fn refusal_of(rule: Rule, property: Option<Found>) -> Refusal
-    ensures { told_of result ≡ record { number = number_of rule; place = 0; second = record_of property } }
-{
-    Refusal {
-        rule,
-        place: 0,
-        property: record_of(property),
     }
 }
 
@@ -55,10 +43,10 @@ fn check_root(
     if !name_is(tables, 0, b"cpus") {
         return Err(Rule::CpusNode.at(0));
     }
-    allowed.ok_or(refusal_of(Rule::CpusAddressCells, address))?;
+    allowed.ok_or(refusal_of(Rule::CpusAddressCells, 0, address))?;
     let size = find_property(tables.props, tables.pool, 0, b"#size-cells");
     if cell_in(tables.pool, size) != Some(0) {
-        return Err(refusal_of(Rule::CpusSizeCells, size));
+        return Err(refusal_of(Rule::CpusSizeCells, 0, size));
     }
     Ok(())
 }

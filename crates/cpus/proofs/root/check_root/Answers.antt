@@ -1,8 +1,7 @@
 -- SPDX-License-Identifier: BSD-2-Clause OR GPL-2.0-or-later
 -- `check_root` meets its contract: each answer is the definition's at what its tests give. Assumes nothing.
-use Rattle.std.specs.Prelude.{Option, None, Some, Ok, Err}
-use Rattle.std.specs.Option.{ok_or}
-use mathlib.Core.Path.{◌≡◌, refl, sym, ◌∙◌}
+use Rattle.std.specs.Prelude.{Option, Some}
+use mathlib.Core.Path.{◌≡◌, sym, ◌∙◌}
 use mathlib.Core.Bool.{Bool, true, cond}
 use Prim.Native.Nat.{ℕ}
 use Rattle.std.proofs.lemmas.Result.{err_from_is_err_and}
@@ -14,17 +13,8 @@ use Rattle.tables.specs.facts.Board.{Board, board_of, name_offset, name_length}
 use Rattle.cpus.specs.declared.Cells.{Cells}
 use Rattle.cpus.specs.answers.Check.{address_cells, name_fault, told_of_root, root_fault}
 use Rattle.cpus.specs.answers.Cell.{cell_in, cell_of, is_number}
-use Rattle.cpus.proofs.NumberTestLaws.{number_not, number_is}
+use Rattle.cpus.proofs.OptionLaws.{ok_or_err, ok_or_ok, number_not, number_is}
 use Rattle.cpus.proofs.root.check_root.Goals as goal
-
--- which value `ok_or` gave each answer for
-ok_or_err : {A E : Type 0} (o : Option A) (e d : E) → Err d ≡ ok_or o e → (o ≡ None) × (d ≡ e)
-ok_or_err None e d h = (refl, cc)
-ok_or_err (Some x) e d h = absurd cc
-
-ok_or_ok : {A E : Type 0} (o : Option A) (e : E) (x : A) → Ok x ≡ ok_or o e → o ≡ Some x
-ok_or_ok None e x h = absurd cc
-ok_or_ok (Some y) e x h = cc
 
 module _ (b : Board) where
   name-sound : {test : Bool} → test ≡ range_is b.pool (name_offset b.nodes 0) (name_length b.nodes 0) cpus_word → test ≡ true → name_fault b ≡ 0
