@@ -98,7 +98,9 @@ module _ (r : ℕ → CpuReading) (rule : ℕ) (records before : List ℕ) where
     front : take k values ≡ numbers k
     front =
         let long = numbers_length k (omega (arith, fits)) in
-        ap (take k) h.held ∙ ap (λ (n : ℕ). take n (laid_over (numbers k) before)) (sym long) ∙ over_front (numbers k) before (omega (arith, fits))
+        ap (take k) h.held
+        ∙ ap (λ (n : ℕ). take n (laid_over (numbers k) before)) (sym long)
+        ∙ over_front (numbers k) before (omega (arith, fits))
 
     pass_fault : {number : ℕ} → number ≡ checked.number → number ≡ listed_fault r rule cut k
     unfolding listed_fault

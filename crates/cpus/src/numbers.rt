@@ -18,7 +18,7 @@ fn repeat_rule(wanted: CpuNumbers) -> Rule
     ensures { number_of result ≡ repeat_rule wanted }
 {
     match wanted {
-        CpuNumbers::Regs { cells: _, width: _ } => Rule::DuplicateCpuReg,
+        CpuNumbers::Regs { .. } => Rule::DuplicateCpuReg,
         CpuNumbers::Phandles => Rule::CpuPhandle,
     }
 }

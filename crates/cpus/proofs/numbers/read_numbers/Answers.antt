@@ -1,7 +1,9 @@
 -- SPDX-License-Identifier: BSD-2-Clause OR GPL-2.0-or-later
 -- `read_numbers` meets its contract: the pass holds before each record. Assumes nothing.
 use mathlib.Core.Path.{refl}
+use Prim.Native.Nat.{◌<◌}
 use native.Mathlib.Omega.{arith}
+use lib.ListN.{length}
 use Rattle.std.proofs.lemmas.Result.{err_from_is_err_and}
 use Rattle.laws.specs.answers.Told.{told_of}
 use Rattle.laws.proofs.ToldLaws.{rule_counts}
@@ -14,15 +16,17 @@ loop-k-init c = pass_start _ _ _ _
 pub loop-k-preserved : goal.loop-k-preserved
 loop-k-preserved c =
     let read = c.in_ok-found.ensures in
-    pass_next _ _ _ _ _ _ c.from-i.ensures c.loop-k.invariant (omega (arith, c.min-n.ensures)) (omega (arith, c.min-n.ensures)) read.number read.value refl
+    let inside : (c.loop-k.k < length c.args.records.now) × (c.loop-k.k < length c.loop-k.values) = omega (arith, c.min-n.ensures) in
+    pass_next _ _ _ _ _ _ c.from-i.ensures c.loop-k.invariant inside.0 inside.1 read.number read.value refl
 
 pub returns-in_err-found : goal.returns-in_err-found
 returns-in_err-found c =
     let p = err_from_is_err_and c.from_residual.result c.from_residual.ensures.1 in
     let read = c.in_err-found.ensures in
+    let inside : (c.loop-k.k < length c.args.records.now) × (c.loop-k.k < length c.loop-k.values) = omega (arith, c.min-n.ensures) in
+    let fault = told_of c.in_err-found.field-0.0 in
     let told =
-    pass_told _ _ _ _ _ _ c.from-i.ensures c.loop-k.invariant (omega (arith, c.min-n.ensures)) (omega (arith, c.min-n.ensures)) (told_of c.in_err-found.field-0.0)
-    read.number read.place read.second (rule_counts _) in
+    pass_told _ _ _ _ _ _ c.from-i.ensures c.loop-k.invariant inside.0 inside.1 fault read.number read.place read.second (rule_counts _) in
     rw (p.1, p.2) (record { fault = told.0; values = told.1 })
 
 pub returns : goal.returns
