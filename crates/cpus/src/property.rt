@@ -33,10 +33,10 @@ fn cells_at(pool: &[u8], cells: Cells, at: usize) -> u64
     requires { at + size_of cells ≤ length pool.now }
     ensures { result ≡ cells_at pool.now cells at }
 {
-    let first = cell_at(pool, at) as u64;
+    let first = u64::from(cell_at(pool, at));
     match cells {
         Cells::One => first,
-        Cells::Two => first * 4294967296 + cell_at(pool, at + 4) as u64,
+        Cells::Two => first * 4294967296 + u64::from(cell_at(pool, at + 4)),
     }
 }
 
