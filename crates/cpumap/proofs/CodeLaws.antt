@@ -1,16 +1,24 @@
 -- SPDX-License-Identifier: BSD-2-Clause OR GPL-2.0-or-later
 -- What the proofs of the code cite of the definitions. Assumes nothing.
-use Rattle.std.specs.Prelude.{None, Some}
-use mathlib.Core.Path.{◌≡◌, sym, ap, ap₂, ◌∙◌}
+use Rattle.std.specs.Prelude.{Option, None, Some, Ok, Err, MatchOption, IfSome, unwrap_or}
+use Rattle.std.specs.Option.{ok_or}
+use mathlib.Core.Path.{◌≡◌, refl, sym, ap, ap₂, ◌∙◌}
 use mathlib.Core.Bool.{Bool, true, false, cond}
 use mathlib.Core.List.{List}
-use Prim.Native.Nat.{ℕ, ◌+◌, ◌-◌, ◌≤◌, ◌<◌}
+use Prim.Native.Nat.{ℕ, zero, suc, ◌+◌, ◌-◌, ◌≤◌, ◌<◌}
 use native.Mathlib.Omega.{arith}
 use lib.Dec.{ltb}
 use lib.ListN.{length, set}
-use borrow.Author.Tests.{lt-ltb, le-ltb, le-leb, lt-leb, eq-eqb, ne_eqb}
-use Rattle.laws.specs.facts.Told.{Fault}
-use Rattle.laws.specs.answers.Fault.{plain, first_fault}
+use borrow.Author.Tests.{lt-ltb, le-ltb, le-leb, lt-leb}
+use Rattle.laws.specs.declared.rules.Rule.{Rule}
+use Rattle.laws.specs.declared.rules.Rule.TheVariants.{CpuMapMissing}
+use Rattle.laws.specs.declared.rules.Refusal.{Refusal}
+use Rattle.laws.specs.facts.Told.{Fault, number_of}
+use Rattle.laws.specs.answers.Told.{told_of}
+use Rattle.laws.specs.answers.Fault.{plain, clear, first_fault}
+use Rattle.laws.proofs.ToldLaws.{refusal_shown}
+use Rattle.laws.specs.answers.Search.{lowest}
+use Rattle.laws.proofs.SearchLaws.{lowest_at}
 use Rattle.layout.specs.facts.Row.{gap}
 use Rattle.names.specs.declared.TopologyName.{TopologyName}
 use Rattle.names.specs.declared.TopologyName.TheVariants.{Socket, Cluster, Core, Thread, Other}
@@ -72,7 +80,8 @@ module _ (nodes pool : List ℕ) (i : ℕ) where
   unfolding cluster_path
   path_none h = climb_none nodes no_clusters (λ j path. cluster_step (topology_name nodes pool j) path) i (parent_top nodes i h)
 
-  pub path_is : (p : ℕ) → parent_of nodes i ≡ Some p → cluster_step (topology_name nodes pool i) (cluster_path nodes pool p) ≡ cluster_path nodes pool i
+  pub path_is :
+      (p : ℕ) → parent_of nodes i ≡ Some p → cluster_step (topology_name nodes pool i) (cluster_path nodes pool p) ≡ cluster_path nodes pool i
   unfolding cluster_path
   path_is p h = climb_is no_clusters (λ j path. cluster_step (topology_name nodes pool j) path) p h
 
@@ -116,35 +125,61 @@ path_short nodes pool =
     more (Thread n) path lt = omega arith
     more Other path lt = omega arith
 
+-- the lowest place that passes, as a search finds it
+module _ (p : ℕ → Bool) where
+  none_below : (n : ℕ) → ((k : ℕ) → 0 ≤ k → k < n → p k ≡ false) → lowest p n ≡ n
+  unfolding lowest
+  none_below zero h = refl
+  none_below (suc n) h = rw (none_below n (λ k _ lt. h k (omega arith) (omega arith)), le-ltb n n (omega arith), h n (omega arith) (omega arith))
+
+  pub lowest_found :
+      (n : ℕ) (r : Option ℕ) →
+      MatchOption r ((k : ℕ) → 0 ≤ k → k < n → p k ≡ false)
+      (λ i. (0 ≤ i) × (i < n) × (p i ≡ true) × ((k : ℕ) → 0 ≤ k → k < i → p k ≡ false)) →
+      unwrap_or r n ≡ lowest p n
+  lowest_found n None h = sym (none_below n h)
+  lowest_found n (Some i) h = lowest_at p i n h.1 (none_below i h.3) h.2
+
 -- the search for the map
 module _ (nodes pool : List ℕ) where
   abbrev seconds : Fault
   seconds = first_fault (second_map_fault nodes pool) (node_count nodes)
 
-  pub map_none : {m : ℕ} → m ≡ map_of nodes pool → node_count nodes ≤ m → record { fault = plain 15 0; map = 0 } ≡ map_scan nodes pool
+  -- no map is found
+  pub map_none :
+      (found : Option ℕ) {r : Rule} →
+      unwrap_or found (node_count nodes) ≡ map_of nodes pool →
+      ok_or found CpuMapMissing ≡ Err r →
+      record { fault = plain (number_of r) 0; map = 0 } ≡ map_scan nodes pool
   unfolding map_scan map_fault
-  map_none e le = rw (le-ltb (map_of nodes pool) (node_count nodes) (rw e at le))
+  map_none None {r} e h =
+      let same : CpuMapMissing ≡ r = cc in
+      rw (← same, ← e, le-ltb (node_count nodes) (node_count nodes) (omega arith))
+  map_none (Some m) e h = let z : ◌≡◌ {A = ℕ} 0 1 = cc in absurd (omega arith)
 
-  past_map : {m : ℕ} {f : Fault} → m ≡ map_of nodes pool → m < node_count nodes → f ≡ seconds → map_fault nodes pool ≡ f
+  -- the map that is found
+  pub map_some :
+      (found : Option ℕ) {m : ℕ} →
+      unwrap_or found (node_count nodes) ≡ map_of nodes pool →
+      IfSome found (λ k. k < node_count nodes) →
+      ok_or found CpuMapMissing ≡ Ok m →
+      (m ≡ map_of nodes pool) × (m < node_count nodes)
+  map_some None e lt h = let z : ◌≡◌ {A = ℕ} 0 1 = cc in absurd (omega arith)
+  map_some (Some k) {m} e lt h = let same : k ≡ m = cc in (rw (← same) e, rw (← same) lt)
+
+  past_map : {m : ℕ} {f : Fault} → (m ≡ map_of nodes pool) × (m < node_count nodes) → f ≡ seconds → map_fault nodes pool ≡ f
   unfolding map_fault
-  past_map e lt s = rw (lt-ltb (map_of nodes pool) (node_count nodes) (rw e at lt)) (sym s)
+  past_map t s = rw (lt-ltb (map_of nodes pool) (node_count nodes) (rw t.0 at t.1)) (sym s)
 
   pub map_second :
-      {m : ℕ} {f : Fault} →
-      m ≡ map_of nodes pool →
-      m < node_count nodes →
-      f ≡ seconds →
-      (f.number ≡ 0 → ⊥) →
-      record { fault = f; map = 0 } ≡ map_scan nodes pool
+      {m : ℕ} (r : Refusal) →
+      (m ≡ map_of nodes pool) × (m < node_count nodes) →
+      told_of r ≡ seconds →
+      record { fault = told_of r; map = 0 } ≡ map_scan nodes pool
   unfolding map_scan
-  map_second {m} {f} e lt s ne = rw (past_map e lt s, ne_eqb f.number 0 ne)
+  map_second r t s = rw (past_map t s, refusal_shown r)
 
   pub map_found :
-      {m : ℕ} {f : Fault} →
-      m ≡ map_of nodes pool →
-      m < node_count nodes →
-      f ≡ seconds →
-      f.number ≡ 0 →
-      record { fault = f; map = m } ≡ map_scan nodes pool
+      {m : ℕ} → (m ≡ map_of nodes pool) × (m < node_count nodes) → clear ≡ seconds → record { fault = clear; map = m } ≡ map_scan nodes pool
   unfolding map_scan
-  map_found {m} {f} e lt s z = rw (past_map e lt s, eq-eqb f.number 0 z, ← e)
+  map_found t s = rw (past_map t s, ← t.0)

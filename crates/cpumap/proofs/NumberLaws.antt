@@ -1,7 +1,7 @@
 -- SPDX-License-Identifier: BSD-2-Clause OR GPL-2.0-or-later
 -- The number in a record's name: what the test of it means, and the name's last byte. Assumes nothing.
 use mathlib.Core.Path.{◌≡◌, refl, sym, ap, ◌∙◌}
-use mathlib.Core.Bool.{Bool, true, false, cond}
+use mathlib.Core.Bool.{Bool, true, false, cond, not}
 use mathlib.Core.List.{List, [], ◌∷◌, ◌++◌}
 use Prim.Native.Nat.{ℕ, ◌+◌, ◌-◌, ◌%◌, ◌≤◌}
 use native.Mathlib.Omega.{arith}
@@ -10,6 +10,7 @@ use lib.ListN.{length, get_or, drop, length-append}
 use lib.Seq.{get_or_at, get_or-take, get_or-drop}
 use borrow.Author.Tests.{eqb-true, eqb-false, eq-eqb, ne_eqb, leb-true, le-leb}
 use Rattle.laws.proofs.SearchLaws.{true_false}
+use Rattle.laws.proofs.PassLaws.{not_cond}
 use Rattle.laws.proofs.TestLaws.{false_unless}
 use Rattle.laws.proofs.DecideLaws.{Decides}
 use Rattle.names.specs.declared.TopologyName.{TopologyName}
@@ -88,13 +89,14 @@ module _ (nodes pool : List ℕ) (i n : ℕ) where
 
   -- the last byte read where the name lies inside the pool
   module _ {offset len : ℕ} (o : offset ≡ name_offset nodes i) (l : len ≡ name_length nodes i) (some : len ≡ 0 → ⊥) where
-    pub ends_same : offset + len ≤ length pool → get_or pool (offset + len - 1) 0 ≡ 48 + n % 10 → false ≡ ends_otherwise nodes pool i n
+    pub ends_inside :
+        {last : ℕ} →
+        offset + len ≤ length pool →
+        last ≡ get_or pool (offset + len - 1) 0 →
+        not (eqb last (48 + n % 10)) ≡ ends_otherwise nodes pool i n
     unfolding ends_otherwise
-    ends_same inside e = rw (← o, ← l, ne_eqb len 0 some, le-leb (offset + len) (length pool) inside, eq-eqb _ _ e)
-
-    pub ends_other : offset + len ≤ length pool → (get_or pool (offset + len - 1) 0 ≡ 48 + n % 10 → ⊥) → true ≡ ends_otherwise nodes pool i n
-    unfolding ends_otherwise
-    ends_other inside ne = rw (← o, ← l, ne_eqb len 0 some, le-leb (offset + len) (length pool) inside, ne_eqb _ _ ne)
+    ends_inside {last} inside e =
+        rw (← o, ← l, ne_eqb len 0 some, le-leb (offset + len) (length pool) inside, ← e) (not_cond (eqb last (48 + n % 10)))
 
     pub ends_outside : leb (offset + len) (length pool) ≡ false → false ≡ ends_otherwise nodes pool i n
     unfolding ends_otherwise

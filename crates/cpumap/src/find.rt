@@ -1,6 +1,6 @@
 // SPDX-License-Identifier: BSD-2-Clause OR GPL-2.0-or-later
 // Finding the map: rules 15 and 16.
-ghost use Rattle.std.specs.Prelude.{◌≡◌};
+ghost use Rattle.std.specs.Prelude.{◌≡◌, ◌<◌, IfSome, unwrap_or};
 ghost use Rattle.laws.specs.answers.Told.{number_in, told_in};
 ghost use Rattle.cpumap.specs.answers.Told.{map_told};
 ghost use Rattle.laws.specs.answers.Fault.{first_fault};
@@ -11,6 +11,7 @@ use laws::{Refusal, Rule};
 use tables::{Tables, binding, cell_at, is_child, node_word};
 
 // Whether record i is named `cpu-map`: seven bytes, by the cells at their start and at their end.
+// The two slices, and not `&Tables`: a proof knows only of a slice that is passed by itself that its words and bytes fit.
 fn is_map_name(nodes: &[u32], pool: &[u8], i: usize) -> bool
     ensures { result ≡ is_map_name nodes.now pool.now i }
 {
@@ -18,91 +19,56 @@ fn is_map_name(nodes: &[u32], pool: &[u8], i: usize) -> bool
         return false;
     }
     let offset = node_word(nodes, i, 1);
-    if cell_at(pool, offset) != binding::CPU_MAP_START {
-        return false;
-    }
-    cell_at(pool, offset + 3) == binding::CPU_MAP_END
+    cell_at(pool, offset) == binding::CPU_MAP_START
+        && cell_at(pool, offset + 3) == binding::CPU_MAP_END
 }
 
 // Whether record i is a child of record 0 named `cpu-map`.
-fn is_map(nodes: &[u32], pool: &[u8], i: usize) -> bool
-    ensures { result ≡ is_map nodes.now pool.now i }
+fn is_map(tables: &Tables, i: usize) -> bool
+    ensures { result ≡ is_map tables.now.nodes.now tables.now.pool.now i }
 {
-    if is_child(nodes, 0, i) {
-        return is_map_name(nodes, pool, i);
-    }
-    false
+    is_child(tables.nodes, 0, i) && is_map_name(tables.nodes, tables.pool, i)
 }
 
-// The map's record, or the number of records where there is none.
-fn lowest_map(nodes: &[u32], pool: &[u8]) -> usize
-    ensures { result ≡ map_of nodes.now pool.now }
+// The map's record.
+fn lowest_map(tables: &Tables) -> Option<usize>
+    ensures map { let table = tables.now.nodes.now in
+        unwrap_or result (node_count table) ≡ map_of table tables.now.pool.now }
+    ensures within { IfSome result (λ map. map < node_count tables.now.nodes.now) }
 {
-    let n = nodes.len() / 3;
-    let mut i: usize = 0;
-    while i < n {
-        if is_map(nodes, pool, i) {
-            return i;
-        }
-        i += 1;
-    }
-    i
+    (0..tables.nodes.len() / 3).find(|i| is_map(tables, *i))
 }
 
-// 16 where record i is named as the map and is not the map, or 0.
-fn second_map_fault(nodes: &[u32], pool: &[u8], map: usize, i: usize) -> u32
-    requires { map ≡ map_of nodes.now pool.now }
-    ensures { result ≡ second_map_fault nodes.now pool.now i }
+// Rule 16 at record i: it is named as the map and is not the map.
+fn second_map_fault(tables: &Tables, map: usize, i: usize) -> Result<(), Rule>
+    requires { map ≡ map_of tables.now.nodes.now tables.now.pool.now }
+    ensures { number_in result ≡ second_map_fault tables.now.nodes.now tables.now.pool.now i }
 {
-    if is_map_name(nodes, pool, i) {
-        if i == map {
-            return 0;
-        }
-        return rules::CPU_MAP_DUPLICATE;
+    if is_map_name(tables.nodes, tables.pool, i) && i != map {
+        return Err(Rule::CpuMapDuplicate);
     }
-    0
+    Ok(())
 }
 
 // The lowest record that breaks rule 16.
-fn second_map(nodes: &[u32], pool: &[u8], map: usize) -> Fault
-    requires { map ≡ map_of nodes.now pool.now }
-    ensures { let table = nodes.now in
-        result ≡ first_fault (second_map_fault table pool.now) (node_count table) }
+fn second_map(tables: &Tables, map: usize) -> Result<(), Refusal>
+    requires { map ≡ map_of tables.now.nodes.now tables.now.pool.now }
+    ensures { let table = tables.now.nodes.now in
+        told_in result ≡ first_fault (second_map_fault table tables.now.pool.now) (node_count table) }
 {
-    let n = nodes.len() / 3;
-    let mut i: usize = 0;
-    while i < n {
-        let number = second_map_fault(nodes, pool, map, i);
-        if number != 0 {
-            return Fault {
-                number,
-                place: i,
-                second: NO_PROPERTY,
-            };
+    for i in 0..tables.nodes.len() / 3 {
+        if let Err(rule) = second_map_fault(tables, map, i) {
+            return Err(rule.at(i));
         }
-        i += 1;
     }
-    CLEAR
+    Ok(())
 }
 
 // The map's record, or the first of rules 15 and 16 that is broken.
 pub fn find_map(tables: &Tables) -> Result<usize, Refusal>
     ensures { map_told result ≡ map_scan tables.now.nodes.now tables.now.pool.now }
 {
-    let map = lowest_map(nodes, pool);
-    if nodes.len() / 3 <= map {
-        return MapScan {
-            fault: Fault {
-                number: rules::CPU_MAP_MISSING,
-                place: 0,
-                second: NO_PROPERTY,
-            },
-            map: 0,
-        };
-    }
-    let fault = second_map(nodes, pool, map);
-    if fault.number != 0 {
-        return MapScan { fault, map: 0 };
-    }
-    MapScan { fault, map }
+    let map = lowest_map(tables).ok_or(Rule::CpuMapMissing)?;
+    second_map(tables, map)?;
+    Ok(map)
 }

@@ -15,6 +15,7 @@ pub use path::topology_name;
 pub use positions::position_of;
 
 // A cluster path: four numbers, outermost first, 0xFFFFFFFF where unused, and how many are used.
+// An array with a length beside it, as the row has its four words: fixed memory without a heap.
 #[derive(Clone, Copy)]
 pub struct ClusterPath {
     pub numbers: [u32; 4],
@@ -22,6 +23,7 @@ pub struct ClusterPath {
 }
 
 // What a record and its ancestors say: the number of their socket, 0xFFFFFFFF where there is none, and their clusters.
+// A number for none, and no Option: it is the word of the row that C reads.
 #[derive(Clone, Copy)]
 pub struct Position {
     pub socket: u32,

@@ -23,10 +23,10 @@ pub fn topology_number(name: TopologyName) -> u32
     ensures { result ≡ topology_number name }
 {
     match name {
-        TopologyName::Socket(n) => n,
-        TopologyName::Cluster(n) => n,
-        TopologyName::Core(n) => n,
-        TopologyName::Thread(n) => n,
+        TopologyName::Socket(n)
+        | TopologyName::Cluster(n)
+        | TopologyName::Core(n)
+        | TopologyName::Thread(n) => n,
         TopologyName::Other => 0,
     }
 }

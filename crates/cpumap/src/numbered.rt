@@ -10,34 +10,25 @@ use crate::path::topology_name;
 use tables::{Tables, is_inside, node_word};
 
 // Whether the name of record i lies inside the pool and ends in another byte than the last digit of n.
-fn ends_otherwise(nodes: &[u32], pool: &[u8], i: usize, n: u32) -> bool
-    ensures { result ≡ ends_otherwise nodes.now pool.now i n }
+fn ends_otherwise(tables: &Tables, i: usize, n: u32) -> bool
+    ensures { result ≡ ends_otherwise tables.now.nodes.now tables.now.pool.now i n }
 {
-    let offset = node_word(nodes, i, 1);
-    let len = node_word(nodes, i, 2);
-    if len == 0 {
+    let offset = node_word(tables.nodes, i, 1);
+    let len = node_word(tables.nodes, i, 2);
+    if len == 0 || !is_inside(tables.pool.len(), offset, len) {
         return false;
     }
-    if is_inside(pool.len(), offset, len) {
-        let end = offset + len;
-        if pool[end - 1] as u32 == 48 + n % 10 {
-            return false;
-        }
-        return true;
-    }
-    false
+    let last = tables.pool[offset + len - 1];
+    u32::from(last) != 48 + n % 10
 }
 
 // Whether the name of record i is a topology name with the number n. Most names with other numbers are known by their last byte.
 pub fn has_number(tables: &Tables, i: usize, n: u32) -> bool
     ensures { result ≡ is_numbered n (topology_name tables.now.nodes.now tables.now.pool.now i) }
 {
-    if ends_otherwise(nodes, pool, i, n) {
+    if ends_otherwise(tables, i, n) {
         return false;
     }
-    let name = topology_name(nodes, pool, i);
-    if kind_number(name) == 0 {
-        return false;
-    }
-    topology_number(name) == n
+    let name = topology_name(tables, i);
+    kind_number(name) != 0 && topology_number(name) == n
 }

@@ -6,25 +6,21 @@ ghost use Rattle.cpumap.specs.answers.Path.{topology_name, no_clusters, extend, 
 use crate::ClusterPath;
 use layout::GAP;
 use names::{TopologyName, name_of};
-use tables::{Tables, node_word};
+use tables::{Tables, is_inside, node_word};
 
 // What record i's name says. Other where it is no record or its name leaves the pool.
 pub fn topology_name(tables: &Tables, i: usize) -> TopologyName
     ensures { result ≡ topology_name tables.now.nodes.now tables.now.pool.now i }
 {
-    if nodes.len() / 3 <= i {
+    if tables.nodes.len() / 3 <= i {
         return TopologyName::Other;
     }
-    let offset = node_word(nodes, i, 1);
-    let len = node_word(nodes, i, 2);
-    if pool.len() < offset {
+    let offset = node_word(tables.nodes, i, 1);
+    let len = node_word(tables.nodes, i, 2);
+    if !is_inside(tables.pool.len(), offset, len) {
         return TopologyName::Other;
     }
-    if pool.len() - offset < len {
-        return TopologyName::Other;
-    }
-    let end = offset + len;
-    name_of(&pool[offset..end])
+    name_of(&tables.pool[offset..offset + len])
 }
 
 impl ClusterPath {
@@ -55,10 +51,7 @@ pub fn cluster_step(name: TopologyName, above: ClusterPath) -> ClusterPath
     ensures { result ≡ cluster_step name above }
 {
     match name {
-        TopologyName::Socket(_) => above,
         TopologyName::Cluster(n) => above.extended(n),
-        TopologyName::Core(_) => above,
-        TopologyName::Thread(_) => above,
-        TopologyName::Other => above,
+        _ => above,
     }
 }

@@ -16,10 +16,7 @@ fn socket_step(name: TopologyName, above: u32) -> u32
 {
     match name {
         TopologyName::Socket(n) => n,
-        TopologyName::Cluster(_) => above,
-        TopologyName::Core(_) => above,
-        TopologyName::Thread(_) => above,
-        TopologyName::Other => above,
+        _ => above,
     }
 }
 
@@ -47,9 +44,8 @@ fn position_step(name: TopologyName, above: Position) -> Position
 pub fn position_of(tables: &Tables, i: usize) -> Position
     ensures { result ≡ position_of tables.now.nodes.now tables.now.pool.now i }
 {
-    let parent = parent_of(nodes, i);
-    let Parent::Record(p) = parent else {
+    let Some(p) = parent_of(tables.nodes, i) else {
         return no_position();
     };
-    position_step(topology_name(nodes, pool, i), position_of(nodes, pool, p))
+    position_step(topology_name(tables, i), position_of(tables, p))
 }

@@ -8,6 +8,6 @@ pub returns-then-is_child : goal.returns-then-is_child
 unfolding is_map
 returns-then-is_child c = rw (sym c.is_child.ensures ∙ c.if-is_child.true) c.is_map_name.ensures
 
-pub returns : goal.returns
+pub returns-else-is_child : goal.returns-else-is_child
 unfolding is_map
-returns c = rw (sym c.is_child.ensures ∙ c.if-is_child.false)
+returns-else-is_child c = rw (c.if-is_child.false, sym c.is_child.ensures ∙ c.if-is_child.false)

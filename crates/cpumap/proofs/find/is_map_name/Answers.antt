@@ -26,11 +26,15 @@ tested c =
 pub returns-then-node_word-ne7 : goal.returns-then-node_word-ne7
 returns-then-node_word-ne7 c = other_name _ _ _ c.node_word.ensures c.if-node_word-ne7.true
 
-pub returns-then-cell_at-ne-CPU_MAP_START : goal.returns-then-cell_at-ne-CPU_MAP_START
-returns-then-cell_at-ne-CPU_MAP_START c = rw (ne_eqb _ _ c.if-cell_at-ne-CPU_MAP_START.true) at (tested (goal.at.returns-then-cell_at-ne-CPU_MAP_START c).After-cell_at)
-
 pub overflow_add-offset : goal.overflow_add-offset
 overflow_add-offset c = omega (arith, c.node_word-offset.ensures, c.type_inv.nodes (3 * c.args.i + 1))
 
-pub returns : goal.returns
-returns c = rw c.cell_at-2.ensures (rw (eq-eqb _ _ c.if-cell_at-ne-CPU_MAP_START.false) at (tested (goal.at.returns c).After-cell_at))
+pub returns-then-cell_at-eq-CPU_MAP_START : goal.returns-then-cell_at-eq-CPU_MAP_START
+returns-then-cell_at-eq-CPU_MAP_START c =
+    rw c.cell_at-then-cell_at-eq-CPU_MAP_START.ensures
+    (rw (eq-eqb _ _ c.if-cell_at-eq-CPU_MAP_START.true) at (tested (goal.at.returns-then-cell_at-eq-CPU_MAP_START c).After-cell_at))
+
+pub returns-else-cell_at-eq-CPU_MAP_START : goal.returns-else-cell_at-eq-CPU_MAP_START
+returns-else-cell_at-eq-CPU_MAP_START c =
+    rw (ne_eqb _ _ c.if-cell_at-eq-CPU_MAP_START.false)
+    (rw (ne_eqb _ _ c.if-cell_at-eq-CPU_MAP_START.false) at (tested (goal.at.returns-else-cell_at-eq-CPU_MAP_START c).After-cell_at))

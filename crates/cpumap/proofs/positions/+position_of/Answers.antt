@@ -8,13 +8,13 @@ use Rattle.cpumap.proofs.CodeLaws.{position_none, position_is}
 use Rattle.cpumap.proofs.positions.+position_of.Goals as goal
 
 pub returns-in_default : goal.returns-in_default
-returns-in_default t c = c.no_position.ensures ∙ position_none _ _ _ (sym c.parent_of-parent.ensures ∙ c.in_default.is)
+returns-in_default t c = c.no_position.ensures ∙ position_none _ _ _ (sym c.parent_of.ensures ∙ c.in_default.is)
 
 pub position_of-requires : goal.position_of-requires
-position_of-requires t c = omega (arith, (parent_is _ _ _ (sym c.parent_of-parent.ensures ∙ c.in-Some.is)).2)
+position_of-requires t c = omega (arith, (parent_is _ _ _ (sym c.parent_of.ensures ∙ c.in-Some.is)).2)
 
 pub returns : goal.returns
 returns t c =
     c.position_step.ensures
     ∙ ap₂ position_step c.topology_name.ensures c.position_of.ensures
-    ∙ position_is _ _ _ _ (sym c.parent_of-parent.ensures ∙ c.in-Some.is)
+    ∙ position_is _ _ _ _ (sym c.parent_of.ensures ∙ c.in-Some.is)
