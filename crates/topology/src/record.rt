@@ -16,24 +16,19 @@ use laws::Rule;
 use names::TopologyName;
 use tables::{Tables, is_below, node_word};
 
-// The smallest of 19 to 23 that record i, below the map and so named, breaks; or 0.
-fn map_record_fault(nodes: &[u32], pool: &[u8], map: usize, i: usize, name: TopologyName) -> u32
-    requires { (i < node_count nodes.now) × (parent_word nodes.now i < i) }
-    ensures { result ≡ map_record_fault nodes.now pool.now map i name }
+// The smallest of 19 to 23 that record i, below the map and so named, breaks.
+fn map_record_fault(tables: &Tables, map: usize, i: usize, name: TopologyName) -> Result<(), Rule>
+    requires { let table = tables.now.nodes.now in
+        (i < node_count table) × (parent_word table i < i) }
+    ensures { number_in result ≡ map_record_fault tables.now.nodes.now tables.now.pool.now map i name }
 {
     if kind_number(name) == 0 {
-        return rules::CPU_MAP_NAME;
+        return Err(Rule::CpuMapName);
     }
-    let p = node_word(nodes, i, 0);
-    let number = kind_fault(nodes, pool, map, p, name);
-    if number != 0 {
-        return number;
-    }
-    let number = number_fault(nodes, pool, p, i, topology_number(name));
-    if number != 0 {
-        return number;
-    }
-    shape_fault(nodes, pool, p, i, name)
+    let p = node_word(tables.nodes, i, 0);
+    kind_fault(tables, map, p, name)?;
+    number_fault(tables, p, i, topology_number(name))?;
+    shape_fault(tables, p, i, name)
 }
 
 // Whether the name of record i is a leaf's: a thread's, or that of a core without children.
@@ -41,46 +36,30 @@ fn is_leaf_name(nodes: &[u32], i: usize, name: TopologyName) -> bool
     ensures { result ≡ is_leaf_name nodes.now i name }
 {
     match name {
-        TopologyName::Socket(_) => false,
-        TopologyName::Cluster(_) => false,
         TopologyName::Core(_) => !has_child(nodes, i),
         TopologyName::Thread(_) => true,
-        TopologyName::Other => false,
+        _ => false,
     }
 }
 
-// What record i, below the map and so named, breaks of 19 to 23, and whether it is a leaf.
-fn map_record_shape(
-    nodes: &[u32],
-    pool: &[u8],
-    map: usize,
-    i: usize,
-    name: TopologyName,
-) -> RecordShape
-    requires { (i < node_count nodes.now) × (parent_word nodes.now i < i) × (name ≡ topology_name nodes.now pool.now i) }
-    ensures { result ≡ map_record_shape nodes.now pool.now map i }
+// Whether record i, below the map and so named, is a leaf, or the first of 19 to 23 that it breaks.
+fn map_record_shape(tables: &Tables, map: usize, i: usize, name: TopologyName) -> Result<bool, Rule>
+    requires { let table = tables.now.nodes.now in
+        (i < node_count table) × (parent_word table i < i) × (name ≡ topology_name table tables.now.pool.now i) }
+    ensures { shape_told result ≡ map_record_shape tables.now.nodes.now tables.now.pool.now map i }
 {
-    let number = map_record_fault(nodes, pool, map, i, name);
-    if number != 0 {
-        return RecordShape {
-            number,
-            leaf: false,
-        };
-    }
-    RecordShape {
-        number: 0,
-        leaf: is_leaf_name(nodes, i, name),
-    }
+    map_record_fault(tables, map, i, name)?;
+    Ok(is_leaf_name(tables.nodes, i, name))
 }
 
-// 18 where a record outside the map has a topology name, or 0.
-fn outside_fault(name: TopologyName) -> u32
-    ensures { result ≡ cond (eqb (kind_number name) 0) 0 18 }
+// Rule 18: a record outside the map has a topology name.
+fn outside_fault(name: TopologyName) -> Result<(), Rule>
+    ensures { number_in result ≡ cond (eqb (kind_number name) 0) 0 18 }
 {
     if kind_number(name) == 0 {
-        return 0;
+        return Ok(());
     }
-    rules::TOPOLOGY_OUTSIDE_MAP
+    Err(Rule::TopologyOutsideMap)
 }
 
 // Whether record i is a leaf, or the first of 18 to 23 that it breaks.
@@ -88,23 +67,16 @@ pub fn record_shape(tables: &Tables, map: usize, i: usize) -> Result<bool, Rule>
     ensures { shape_told result ≡ record_shape tables.now.nodes.now tables.now.pool.now map i }
 {
     if i == 0 {
-        return RecordShape {
-            number: 0,
-            leaf: false,
-        };
+        return Ok(false);
     }
     if i == map {
-        return RecordShape {
-            number: group_fault(nodes, i),
-            leaf: false,
-        };
+        group_fault(tables.nodes, i)?;
+        return Ok(false);
     }
-    let name = topology_name(nodes, pool, i);
-    if is_below(nodes, i, map) {
-        return map_record_shape(nodes, pool, map, i, name);
+    let name = topology_name(tables, i);
+    if is_below(tables.nodes, i, map) {
+        return map_record_shape(tables, map, i, name);
     }
-    RecordShape {
-        number: outside_fault(name),
-        leaf: false,
-    }
+    outside_fault(name)?;
+    Ok(false)
 }

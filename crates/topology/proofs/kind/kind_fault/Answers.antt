@@ -4,25 +4,26 @@ use mathlib.Core.Path.{sym, ◌∙◌}
 use borrow.Author.Tests.{eq-eqb, ne_eqb}
 use Rattle.topology.specs.answers.Check.{kind_fault}
 use Rattle.topology.proofs.kind.kind_fault.Goals as goal
+use Rattle.topology.proofs.kind.kind_fault.Goals.{else-is_allowed-via-then-is_allowed+else-kind_number, else-is_allowed-via-else-is_allowed}
 
 pub returns-then-kind_number : goal.returns-then-kind_number
 unfolding kind_fault
 returns-then-kind_number c =
     rw (
       sym c.is_allowed.ensures ∙ c.if-is_allowed.true,
-      ← c.topology_name-first.ensures,
+      ← c.topology_name.ensures,
       eq-eqb _ _ (sym c.kind_number.ensures ∙ c.if-kind_number.true ∙ c.kind_number-then-is_allowed.ensures),
     )
 
-pub returns-else-kind_number : goal.returns-else-kind_number
+pub returns : goal.returns
 unfolding kind_fault
-returns-else-kind_number c =
-    rw (
-      sym c.is_allowed.ensures ∙ c.if-is_allowed.true,
-      ← c.topology_name-first.ensures,
-      ne_eqb _ _ (λ e. c.if-kind_number.false (c.kind_number.ensures ∙ e ∙ sym c.kind_number-then-is_allowed.ensures)),
-    )
-
-pub returns-else-is_allowed : goal.returns-else-is_allowed
-unfolding kind_fault
-returns-else-is_allowed c = rw (sym c.is_allowed.ensures ∙ c.if-is_allowed.false)
+returns c =
+    elim c.else-is_allowed.branch [
+      | else-is_allowed-via-then-is_allowed+else-kind_number w ↦
+          rw (
+            sym c.is_allowed.ensures ∙ w.if-is_allowed.true,
+            ← w.topology_name.ensures,
+            ne_eqb _ _ (λ e. w.if-kind_number.false (w.kind_number.ensures ∙ e ∙ sym w.kind_number-then-is_allowed.ensures)),
+          )
+      | else-is_allowed-via-else-is_allowed w ↦ rw (sym c.is_allowed.ensures ∙ w.if-is_allowed.false)
+    ]

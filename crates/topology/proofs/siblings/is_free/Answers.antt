@@ -7,10 +7,7 @@ use Rattle.laws.proofs.SearchLaws.{count_le}
 use Rattle.tables.specs.answers.Tree.{is_child}
 use Rattle.topology.proofs.SiblingLaws.{passed_none, passed_other, passed_earlier, passed_later, free_taken, free_enough, free_none}
 use Rattle.topology.proofs.siblings.is_free.Goals as goal
-use Rattle.topology.proofs.siblings.is_free.Goals.{then-is_child, else-is_child, then-j-i+else-has_number, else-j-i+else-n-count}
-
-pub overflow_add-j : goal.overflow_add-j
-overflow_add-j c = let after = c.requires.earlier in omega arith
+use Rattle.topology.proofs.siblings.is_free.Goals.{then-is_child, else-is_child, then-j-i+else-has_number, else-j-i+else-wide-count}
 
 pub loop-j-init : goal.loop-j-init
 loop-j-init c = passed_none _ _ _ _ _ c.requires
@@ -20,16 +17,16 @@ returns-then-has_number c =
     free_taken _ _ _ _ _ c.requires c.loop-j.invariant (omega arith)
     (sym c.is_child.ensures ∙ c.if-is_child.true) c.if-j-i.true (sym c.has_number.ensures ∙ c.if-has_number.true)
 
-pub returns-then-n-count : goal.returns-then-n-count
-returns-then-n-count c =
+pub returns-then-wide-count : goal.returns-then-wide-count
+returns-then-wide-count c =
     free_enough _ _ _ _ _ c.requires c.loop-j.invariant (omega arith)
-    (sym c.is_child.ensures ∙ c.if-is_child.true) c.if-j-i.false c.if-n-count.true
+    (sym c.is_child.ensures ∙ c.if-is_child.true) c.if-j-i.false (omega (arith, c.if-wide-count.true, c.wide.ensures))
 
 pub overflow_add-count : goal.overflow_add-count
 overflow_add-count c =
     let loop = c.loop-j in
     let a = c.args in
-    omega (arith, loop.invariant.counted, count_le (is_child a.nodes.now a.p) loop.j, loop.invariant.inside)
+    omega (arith, loop.invariant.counted, count_le (is_child a.tables.now.nodes.now a.p) loop.j, loop.invariant.inside)
 
 pub loop-j-preserved : goal.loop-j-preserved
 loop-j-preserved c =
@@ -42,7 +39,8 @@ loop-j-preserved c =
           (elim w.if-j-i.branch [
             | then-j-i+else-has_number v ↦
                 passed_earlier _ _ _ _ _ c.requires known (omega arith) yes v.if-j-i.true (sym v.has_number.ensures ∙ v.if-has_number.false)
-            | else-j-i+else-n-count v ↦ passed_later _ _ _ _ _ c.requires known (omega arith) yes v.if-j-i.false v.if-n-count.false
+            | else-j-i+else-wide-count v ↦
+                passed_later _ _ _ _ _ c.requires known (omega arith) yes v.if-j-i.false (omega (arith, v.if-wide-count.false, v.wide.ensures))
           ])
       | else-is_child w ↦ rw w.count-is (passed_other _ _ _ _ _ c.requires known (omega arith) (sym call ∙ w.if-is_child.false))
     ]
