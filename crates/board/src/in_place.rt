@@ -6,12 +6,12 @@ ghost use Rattle.rows.specs.answers.Write.{source_of};
 ghost use Rattle.demands.specs.answers.Told.{board_told};
 ghost use Rattle.demands.specs.answers.Answer.{board_fault, answer_of, rows_by};
 
-use crate::Asked;
-use crate::read::{check_rooms, write};
+use crate::Arrays;
+use crate::read::write;
 use crate::survey::survey;
 use demands::BoardRows;
 use laws::Refusal;
-use laws::limits::MAX_CPUS;
+use tables::Tables;
 
 // Reads a board's tables, for a row buffer of `room` words elsewhere. The first `words` words of `table` are the property table; where no rule
 // is broken the rows are written over it.
@@ -29,34 +29,15 @@ pub fn read_in_place(
         let fault = board_fault b (min room (length table.old)) in
         table.new ≡ rows_by fault (source_of b) table.old }
 {
-    let mut cpus = [0u16; MAX_CPUS];
-    let mut regs = [0u64; MAX_CPUS];
-    let mut leaves = [0u16; MAX_CPUS];
-    let mut named = [0u16; MAX_CPUS];
     let size = table.len();
-    let held = at_most(size, words);
-    let found = survey(
-        width,
-        nodes,
-        &table[..held],
-        pool,
-        &mut cpus,
-        &mut regs,
-        &mut leaves,
-        &mut named,
-    );
-    let count = found.cpus;
-    let leaf_count = found.leaves;
-    let listed = &regs[..count];
-    let checked = check_rooms(width, found, listed, at_most(room, size), Asked::Rows);
-    write(
-        table,
-        nodes,
-        pool,
-        &cpus[..count],
-        listed,
-        &leaves[..leaf_count],
-        &named[..leaf_count],
-        checked,
-    )
+    let held = words.min(size);
+    let mut arrays = Arrays::empty();
+    let props = &table[..held];
+    let tables = Tables { nodes, props, pool };
+    let counts = survey(width, &tables, &mut arrays)?;
+    let lists = arrays.listed(counts);
+    // The rows are written over the properties, of which none is read again.
+    let props = &[];
+    let tables = Tables { nodes, props, pool };
+    write(width, &tables, &lists, table, room.min(size), None)
 }

@@ -6,19 +6,22 @@ mod in_place;
 mod read;
 mod survey;
 
-ghost use Rattle.std.specs.Prelude.{◌≡◌, length};
+ghost use Rattle.std.specs.Prelude.{◌≡◌, ◌≤◌, length};
 ghost use Rattle.tables.specs.facts.Board.{board_of};
 ghost use Rattle.demands.specs.answers.Told.{board_told};
 ghost use Rattle.demands.specs.answers.Answer.{answer_of, rows_after};
 ghost use Rattle.demands.specs.answers.Slots.{slots_answer, slots_rows, slots_table};
 ghost use Rattle.demands.specs.facts.Reading.{Demands};
 ghost use Rattle.demands.specs.facts.Slots.{SlotTableDemands};
+ghost use Rattle.board.specs.steps.Survey.{zeros, IsListed};
 
 use demands::BoardRows;
 pub use in_place::read_in_place;
 use laws::Refusal;
+use laws::limits::MAX_CPUS;
 use layout::ROW_WORDS;
 use read::read;
+use rows::Lists;
 use tables::Tables;
 
 // What a survey counts: the cpu records and the leaves.
@@ -26,6 +29,41 @@ use tables::Tables;
 struct Counts {
     pub cpus: usize,
     pub leaves: usize,
+}
+
+// Room for what the rows are made of: a count says how much of an array is a list, since there is no heap.
+#[derive(Drop)]
+struct Arrays {
+    pub cpus: [u16; MAX_CPUS],
+    pub regs: [u64; MAX_CPUS],
+    pub leaves: [u16; MAX_CPUS],
+    pub named: [u16; MAX_CPUS],
+}
+
+impl Arrays {
+    fn empty() -> Self
+        ensures { result ≡ zeros }
+    {
+        Self {
+            cpus: [0; MAX_CPUS],
+            regs: [0; MAX_CPUS],
+            leaves: [0; MAX_CPUS],
+            named: [0; MAX_CPUS],
+        }
+    }
+
+    // The lists that a survey counted.
+    fn listed(&self, counts: Counts) -> Lists
+        requires cpus { (counts.cpus ≤ 256) × (counts.leaves ≤ 256) }
+        ensures { IsListed self.now counts result }
+    {
+        Lists {
+            cpus: &self.cpus[..counts.cpus],
+            regs: &self.regs[..counts.cpus],
+            leaves: &self.leaves[..counts.leaves],
+            named: &self.named[..counts.leaves],
+        }
+    }
 }
 
 // Reads a board's tables.
@@ -38,7 +76,7 @@ pub fn read_tables(
     ensures rows { rows.new ≡ rows_after (board_of width tables.now) rows.old }
     ensures demands { Demands (board_of width tables.now) rows.old (board_told result) rows.new }
 {
-    read(width, nodes, props, pool, rows, Asked::Rows)
+    read(width, tables, rows, None)
 }
 
 // Reads a board's tables, and fills a table of slots.
@@ -57,11 +95,9 @@ pub fn read_slots(
     ensures demands { let b = board_of width tables.now in
         SlotTableDemands b rows.old table.old (board_told result) rows.new table.new }
 {
-    let entries = table.len();
-    let answer = read(width, nodes, props, pool, rows, Asked::Slots(entries));
-    if answer.number == 0 {
-        let words = ROW_WORDS * answer.count;
-        slot_table::fill_table(table, &rows[..words], answer.hash.bits);
-    }
-    answer
+    let entries = Some(table.len());
+    let found = read(width, tables, rows, entries)?;
+    let words = ROW_WORDS * found.count;
+    slot_table::fill_table(table, &rows[..words], found.hash.bits);
+    Ok(found)
 }

@@ -1,134 +1,77 @@
 // SPDX-License-Identifier: BSD-2-Clause OR GPL-2.0-or-later
 // Check, room, write: what the reading calls have in common.
 ghost use Rattle.std.specs.Prelude.{◌≡◌, length};
-ghost use Rattle.tables.specs.facts.Board.{board};
+ghost use Rattle.laws.specs.answers.Told.{number_in};
+ghost use Rattle.tables.specs.facts.Board.{board_of};
 ghost use Rattle.cpus.specs.answers.Check.{cpu_count};
-ghost use Rattle.rows.specs.answers.Slots.{board_hash};
-ghost use Rattle.rows.specs.answers.Write.{source, source_of};
+ghost use Rattle.rows.specs.answers.Slots.{slots_for, board_hash};
+ghost use Rattle.rows.specs.answers.Write.{source_in, source_of};
+ghost use Rattle.demands.specs.answers.Told.{board_told};
 ghost use Rattle.demands.specs.answers.Answer.{answer_by, rows_by};
-ghost use Rattle.board.specs.steps.Read.{table_fault, rooms_fault, read_fault, checked_of, answer_from};
+ghost use Rattle.board.specs.steps.Read.{rooms_number, written_fault, read_fault};
 
+use crate::Arrays;
 use crate::survey::survey;
-use crate::{Asked, Checked, Surveyed};
-use demands::{BoardAnswer, refused};
-use laws::limits::{MAX_CPUS, NO_PROPERTY};
-use laws::{Fault, rules};
+use demands::BoardRows;
+use laws::{Refusal, Rule};
 use layout::ROW_WORDS;
+use rows::Lists;
+use tables::Tables;
 
-// Rules 38 and 39, where a table is asked for.
-fn table_fault(asked: Asked, bits: u32) -> u32
-    ensures { result ≡ table_fault asked bits }
+// Rule 27 for so many cpu records and a row buffer of so many words; then 38 and 39 where a table of so many entries is asked for.
+fn check_rooms(cpus: usize, room: usize, entries: Option<usize>, bits: u32) -> Result<(), Rule>
+    ensures { number_in result ≡ rooms_number cpus room entries bits }
 {
-    match asked {
-        Asked::Rows => 0,
-        Asked::Slots(entries) => slot_table::entries_fault(bits, entries),
+    if room / ROW_WORDS < cpus {
+        return Err(Rule::RowSpace);
+    }
+    match entries {
+        Some(entries) => slot_table::entries_fault(bits, entries),
+        None => Ok(()),
     }
 }
 
-// What the survey tells, or else the first of rules 27, 38 and 39 that is broken, for a row buffer of so many words.
-fn rooms_fault(found: Surveyed, room: usize, asked: Asked, bits: u32) -> Fault
-    ensures { result ≡ rooms_fault found room asked bits }
-{
-    if found.fault.number != 0 {
-        return found.fault;
-    }
-    let number = if room / ROW_WORDS < found.cpus {
-        rules::ROW_SPACE
-    } else {
-        table_fault(asked, bits)
-    };
-    Fault {
-        number,
-        place: 0,
-        second: NO_PROPERTY,
-    }
-}
-
-// What is told of a surveyed board of a width, whose cpus have these `reg`s, and of a room of so many words; and how its slots are made.
-pub fn check_rooms(width: u32, found: Surveyed, regs: &[u64], room: usize, asked: Asked) -> Checked
-    ensures { result ≡ checked_of width found regs.now room asked }
-{
-    let slots = rows::slots_for(width, regs);
-    let hash = slots.hash;
-    Checked {
-        fault: rooms_fault(found, room, asked, hash.bits),
-        count: found.cpus,
-        slots,
-    }
-}
-
-// Writes the rows where no rule is broken, and gives the answer.
+// Writes the rows of a surveyed board where `room` words of the buffer, and a table of slots if one is asked for, are enough.
 pub fn write(
+    width: u32,
+    tables: &Tables,
+    lists: &Lists,
     rows: &mut [u32],
-    nodes: &[u32],
-    pool: &[u8],
-    cpus: &[u16],
-    regs: &[u64],
-    leaves: &[u16],
-    named: &[u16],
-    checked: Checked,
-) -> BoardAnswer
-    ensures answer { result ≡ answer_from checked }
-    ensures rows { let s = source nodes.now pool.now cpus.now regs.now
-        leaves.now named.now checked.slots in
-        rows.new ≡ rows_by checked.fault s rows.old }
+    room: usize,
+    entries: Option<usize>,
+) -> Result<BoardRows, Refusal>
+    ensures answer { let cpus = length lists.now.cpus.now in
+        let slots = slots_for width lists.now.regs.now in
+        board_told result ≡ answer_by (written_fault cpus room entries slots.hash.bits) cpus slots.hash }
+    ensures rows { let slots = slots_for width lists.now.regs.now in
+        let fault = written_fault (length lists.now.cpus.now) room entries slots.hash.bits in
+        rows.new ≡ rows_by fault (source_in tables.now lists.now slots) rows.old }
 {
-    let fault = checked.fault;
-    if fault.number != 0 {
-        return refused(fault);
-    }
-    let slots = checked.slots;
-    let hash = slots.hash;
-    rows::write_rows(rows, nodes, pool, cpus, regs, leaves, named, slots);
-    BoardAnswer {
-        number: 0,
-        place: 0,
-        second: NO_PROPERTY,
-        count: checked.count,
-        hash,
-    }
+    let count = lists.cpus.len();
+    let slots = rows::slots_for(width, lists.regs);
+    check_rooms(count, room, entries, slots.hash.bits)?;
+    rows::write_rows(rows, tables, lists, slots);
+    Ok(BoardRows {
+        count,
+        hash: slots.hash,
+    })
 }
 
 // Reads a board's tables: the rows are written where no rule is broken.
 pub fn read(
     width: u32,
-    nodes: &[u32],
-    props: &[u32],
-    pool: &[u8],
+    tables: &Tables,
     rows: &mut [u32],
-    asked: Asked,
-) -> BoardAnswer
-    ensures answer { let b = board width nodes.now props.now pool.now in
-        result ≡ answer_by (read_fault b (length rows.old) asked) (cpu_count b) (board_hash b) }
-    ensures rows { let b = board width nodes.now props.now pool.now in
-        rows.new ≡ rows_by (read_fault b (length rows.old) asked) (source_of b) rows.old }
+    entries: Option<usize>,
+) -> Result<BoardRows, Refusal>
+    ensures answer { let b = board_of width tables.now in
+        board_told result ≡ answer_by (read_fault b (length rows.old) entries) (cpu_count b) (board_hash b) }
+    ensures rows { let b = board_of width tables.now in
+        rows.new ≡ rows_by (read_fault b (length rows.old) entries) (source_of b) rows.old }
 {
-    let mut cpus = [0u16; MAX_CPUS];
-    let mut regs = [0u64; MAX_CPUS];
-    let mut leaves = [0u16; MAX_CPUS];
-    let mut named = [0u16; MAX_CPUS];
-    let found = survey(
-        width,
-        nodes,
-        props,
-        pool,
-        &mut cpus,
-        &mut regs,
-        &mut leaves,
-        &mut named,
-    );
-    let count = found.cpus;
-    let leaf_count = found.leaves;
-    let listed = &regs[..count];
-    let checked = check_rooms(width, found, listed, rows.len(), asked);
-    write(
-        rows,
-        nodes,
-        pool,
-        &cpus[..count],
-        listed,
-        &leaves[..leaf_count],
-        &named[..leaf_count],
-        checked,
-    )
+    let mut arrays = Arrays::empty();
+    let counts = survey(width, tables, &mut arrays)?;
+    let lists = arrays.listed(counts);
+    let room = rows.len();
+    write(width, tables, &lists, rows, room, entries)
 }

@@ -1,111 +1,50 @@
 // SPDX-License-Identifier: BSD-2-Clause OR GPL-2.0-or-later
 // Rules 1 to 26, 36 and 37, and what the rows are made of: the cpu records, their `reg`s, the leaves and the cpus that they name.
 ghost use Rattle.std.specs.Prelude.{◌≡◌};
-ghost use Rattle.tables.specs.facts.Board.{board};
-ghost use Rattle.board.specs.steps.Survey.{stopped, survey_of, Lists};
+ghost use Rattle.tables.specs.facts.Board.{board_of};
+ghost use Rattle.board.specs.steps.Told.{survey_told};
+ghost use Rattle.board.specs.steps.Survey.{survey_of, Listed};
 ghost use Rattle.demands.specs.answers.Survey.{survey_fault};
 
-use crate::Surveyed;
+use crate::{Arrays, Counts};
 use cpus::CpuNumbers;
-use laws::Fault;
-use laws::limits::{MAX_CPUS, NO_PROPERTY};
+use laws::Refusal;
+use laws::limits::MAX_CPUS;
 use property_index::INDEX_WORDS;
-
-fn stop(fault: Fault) -> Surveyed
-    ensures { result ≡ stopped fault }
-{
-    Surveyed {
-        fault,
-        cpus: 0,
-        leaves: 0,
-    }
-}
+use tables::Tables;
 
 // Checks rules 1 to 26, 36 and 37, and lists what the rows are made of. What the lists hold after a refusal is not said.
-pub fn survey(
-    width: u32,
-    nodes: &[u32],
-    props: &[u32],
-    pool: &[u8],
-    cpus: &mut [u16; MAX_CPUS],
-    regs: &mut [u64; MAX_CPUS],
-    leaves: &mut [u16; MAX_CPUS],
-    named: &mut [u16; MAX_CPUS],
-) -> Surveyed
-    ensures answer { let b = board width nodes.now props.now pool.now in
-        result ≡ survey_of b }
-    ensures lists { let b = board width nodes.now props.now pool.now in
-        ((survey_fault b).number ≡ 0
-        → Lists b cpus.old regs.old leaves.old named.old
-        cpus.new regs.new leaves.new named.new) }
+pub fn survey(width: u32, tables: &Tables, arrays: &mut Arrays) -> Result<Counts, Refusal>
+    ensures answer { survey_told result ≡ survey_of (board_of width tables.now) }
+    ensures lists { let b = board_of width tables.now in
+        ((survey_fault b).number ≡ 0 → Listed b arrays.old arrays.new) }
 {
-    let fault = wellformed::table_fault(width, nodes, props, pool);
-    if fault.number != 0 {
-        return stop(fault);
-    }
-    let root = cpus::read_root(width, nodes, props, pool);
-    if root.fault.number != 0 {
-        return stop(root.fault);
-    }
-    let cells = root.cells;
-    let count = cpus::list_cpus(nodes, pool, cpus);
-    let number = cpus::count_fault(count);
-    if number != 0 {
-        return stop(Fault {
-            number,
-            place: 0,
-            second: NO_PROPERTY,
-        });
-    }
-    let whole = &cpus[..];
-    let listed = &whole[..count];
+    wellformed::table_fault(width, tables)?;
+    let root = cpus::read_root(width, tables);
+    root.checked?;
+    let count = cpus::list_cpus(tables, &mut arrays.cpus);
+    cpus::count_fault(count)?;
+    let listed = &arrays.cpus[..count];
     let mut index = [0u16; INDEX_WORDS];
-    property_index::index_properties(props, pool, &mut index);
-    let fault = cpus::read_numbers(
-        CpuNumbers::Regs { cells, width },
-        props,
-        pool,
-        &index,
-        listed,
-        regs,
-    );
-    if fault.number != 0 {
-        return stop(fault);
-    }
-    let map = cpumap::find_map(nodes, pool);
-    if map.fault.number != 0 {
-        return stop(map.fault);
-    }
+    property_index::index_properties(tables.props, tables.pool, &mut index);
+    let cells = root.cells;
+    let wanted = CpuNumbers::Regs { cells, width };
+    cpus::read_numbers(wanted, tables, &index, listed, &mut arrays.regs)?;
+    let map = cpumap::find_map(tables)?;
     let mut phandles = [0u64; MAX_CPUS];
-    let fault = cpus::read_numbers(
-        CpuNumbers::Phandles,
-        props,
-        pool,
+    let wanted = CpuNumbers::Phandles;
+    cpus::read_numbers(wanted, tables, &index, listed, &mut phandles)?;
+    let leaves = leaves::read_tree(
+        tables,
         &index,
-        listed,
-        &mut phandles,
-    );
-    if fault.number != 0 {
-        return stop(fault);
-    }
-    let tree = leaves::read_tree(
-        nodes,
-        props,
-        pool,
-        &index,
-        map.map,
+        map,
         listed,
         &phandles[..count],
-        leaves,
-        named,
-    );
-    let last = tree.fault;
-    if last.number != 0 {
-        return stop(last);
-    }
-    Surveyed {
-        fault: last,
+        &mut arrays.leaves,
+        &mut arrays.named,
+    )?;
+    Ok(Counts {
         cpus: count,
-        leaves: tree.count,
-    }
+        leaves,
+    })
 }

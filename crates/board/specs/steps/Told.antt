@@ -5,7 +5,6 @@ use Rattle.laws.specs.declared.rules.Refusal.{Refusal}
 use Rattle.laws.specs.facts.Told.{Fault}
 use Rattle.laws.specs.answers.Told.{told_of}
 use Rattle.laws.specs.answers.Fault.{clear}
-use Rattle.rows.specs.declared.BoardSlots.{BoardSlots}
 use Rattle.board.specs.declared.Counts.{Counts}
 
 -- no fault, with the counts of the cpu records and of the leaves; or a fault, with which these are 0
@@ -13,12 +12,6 @@ pub record Surveyed : Type 0 where
   pub fault : Fault
   pub cpus : ℕ
   pub leaves : ℕ
-
--- what is told of it and of the room lent for its rows, the count of its cpu records and how its slots are made
-pub record Checked : Type 0 where
-  pub fault : Fault
-  pub count : ℕ
-  pub slots : BoardSlots
 
 abbrev pub survey_told : Result Counts Refusal → Surveyed
 survey_told (Ok found) = record { fault = clear; cpus = found.cpus; leaves = found.leaves }
