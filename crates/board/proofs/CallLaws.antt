@@ -1,5 +1,6 @@
 -- SPDX-License-Identifier: BSD-2-Clause OR GPL-2.0-or-later
 -- What the two calls owe, by what `read` promises. Assumes nothing.
+use Rattle.std.specs.Prelude.{Option, None, Some}
 use mathlib.Core.Path.{◌≡◌, refl, ◌∙◌}
 use mathlib.Core.List.{List}
 use Prim.Native.Nat.{ℕ, ◌*◌, ◌≤◌}
@@ -21,14 +22,12 @@ use Rattle.demands.proofs.AnswerLaws.{by_else}
 use Rattle.demands.proofs.Claim.{demands}
 use Rattle.demands.proofs.BoundLaws.{slots_count}
 use Rattle.demands.proofs.SlotClaim.{slot_demands, whole}
-use Rattle.board.specs.declared.Asked.{Asked}
-use Rattle.board.specs.declared.Asked.TheVariants.{Rows, Slots}
 use Rattle.board.proofs.ReadLaws.{Met}
 
 -- rows alone: nothing is told after rule 27
 pub rows_alone :
     (b : Board) (before : List ℕ) (room : ℕ) {r : BoardAnswer} {after : List ℕ} →
-    Met b before room Rows r after →
+    Met b before room None r after →
     (r ≡ answer_of b room) × (after ≡ rows_by (board_fault b room) (source_of b) before)
 unfolding answer_of
 rows_alone b before room promised =
@@ -37,12 +36,12 @@ rows_alone b before room promised =
 
 module _ {b : Board} (sized : WordSized b) (before : List ℕ) where
   -- what `read` promises of an answer and the row buffer
-  abbrev Read : Asked → BoardAnswer → List ℕ → Type 0
+  abbrev Read : Option ℕ → BoardAnswer → List ℕ → Type 0
   Read asked r after = Met b before (length before) asked r after
 
   pub reads_tables :
       {r : BoardAnswer} {after : List ℕ} →
-      Read Rows r after →
+      Read None r after →
       (r ≡ answer_of b (length before)) × ((after ≡ rows_after b before) × Demands b before r after)
   unfolding rows_after
   reads_tables {r} {after} promised =
@@ -51,7 +50,7 @@ module _ {b : Board} (sized : WordSized b) (before : List ℕ) where
       (alone.0, (g, rw (alone.0, g) (demands sized before)))
 
   -- with a table
-  module _ (table : List ℕ) {r : BoardAnswer} {rows : List ℕ} (promised : Read (Slots (length table)) r rows) where
+  module _ (table : List ℕ) {r : BoardAnswer} {rows : List ℕ} (promised : Read (Some (length table)) r rows) where
     answer_is : r ≡ slots_answer b (length before) (length table)
     unfolding slots_fault slots_answer
     answer_is = promised.0

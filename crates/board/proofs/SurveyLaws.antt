@@ -1,6 +1,7 @@
 -- SPDX-License-Identifier: BSD-2-Clause OR GPL-2.0-or-later
 -- The survey stops at the first fault: its stages, and what those of the code tell of a board. Assumes nothing.
-use mathlib.Core.Path.{◌≡◌, sym, ap, ◌∙◌}
+use mathlib.Core.Path.{◌≡◌, refl, sym, ap, ◌∙◌}
+use Rattle.std.specs.Prelude.{Result, Err}
 use mathlib.Core.Logic.{inr}
 use mathlib.Core.List.{List, map}
 use Prim.Native.Nat.{ℕ, ◌*◌, ◌≤◌, min}
@@ -9,7 +10,10 @@ use lib.ListN.{length, take, replicate, length-map}
 use lib.Seq.{take_all}
 use borrow.Author.Tests.{eq-eqb, ne_eqb}
 use Rattle.laws.specs.facts.Told.{Fault}
+use Rattle.laws.specs.declared.rules.Refusal.{Refusal}
 use Rattle.laws.specs.answers.Fault.{told, or_else}
+use Rattle.laws.specs.answers.Told.{told_of}
+use Rattle.laws.proofs.ToldLaws.{rule_counts}
 use Rattle.laws.specs.answers.Search.{count_below, list_below}
 use Rattle.laws.proofs.FaultLaws.{or_first}
 use Rattle.laws.proofs.OrElseLaws.{or_clear, or_assoc}
@@ -36,7 +40,8 @@ use Rattle.leaves.specs.answers.Scan.{lent_tree, leaves_fault, tree_of, leaves_o
 use Rattle.leaves.proofs.PropertyLaws.{same_cpus}
 use Rattle.leaves.proofs.ScanLaws.{leaves_few}
 use Rattle.laws.specs.answers.Listed.{laid_over}
-use Rattle.board.specs.steps.Told.{Surveyed}
+use Rattle.board.specs.declared.Counts.{Counts}
+use Rattle.board.specs.steps.Told.{Surveyed, survey_told}
 use Rattle.demands.specs.answers.Survey.{survey_fault}
 use Rattle.board.specs.steps.Survey.{stopped, survey_of}
 use Rattle.demands.proofs.LayerLaws.{few_cpus}
@@ -82,6 +87,16 @@ module _ (b : Board) where
         (r ≡ survey_of b) × ((survey_fault b).number ≡ 0 → A)
     tells_first f rest e is ne same =
         tells (e ∙ or_first f rest (λ z. ne (ap (λ (a : Fault). a.number) same ∙ z))) is ne same
+
+  -- a call that gives up with what a stage tells
+  module _ {r : Result Counts Refusal} {e e' : Refusal} {A : Type 0} (is : r ≡ Err e) (given : e ≡ e') where
+    pub gives_up :
+        (f rest : Fault) → survey_fault b ≡ or_else f rest → told_of e' ≡ f → (survey_told r ≡ survey_of b) × ((survey_fault b).number ≡ 0 → A)
+    gives_up f rest s same = rw (is, given) (tells_first f rest s refl (rule_counts e'.rule) same)
+
+    pub gives_up_last :
+        (f : Fault) → survey_fault b ≡ f → told_of e' ≡ f → (survey_told r ≡ survey_of b) × ((survey_fault b).number ≡ 0 → A)
+    gives_up_last f s same = rw (is, given) (tells s refl (rule_counts e'.rule) same)
 
   pub clears :
       {f : Fault} {cpus leaves : ℕ} {A : Type 0} →
