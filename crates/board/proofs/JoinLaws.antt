@@ -1,7 +1,7 @@
 -- SPDX-License-Identifier: BSD-2-Clause OR GPL-2.0-or-later
 -- A survey that tells nothing, the checks behind it and the writing, joined: what they come to for the board. Assumes nothing.
 use Rattle.std.specs.Prelude.{Option, Ok}
-use mathlib.Core.Path.{◌≡◌, refl, sym, ap, ◌∙◌}
+use mathlib.Core.Path.{◌≡◌, sym, ap, ◌∙◌}
 use mathlib.Core.List.{List}
 use Prim.Native.Nat.{ℕ, ◌≤◌}
 use native.Mathlib.Omega.{arith}
@@ -12,7 +12,7 @@ use Rattle.cpus.specs.answers.Check.{cpu_count, cpu_list, reg_list}
 use Rattle.cpus.proofs.CpuMeans.{cpu_count_lem}
 use Rattle.leaves.specs.answers.Scan.{leaves_of, named_of}
 use Rattle.rows.specs.declared.Lists.{Lists as RowLists}
-use Rattle.rows.specs.answers.Slots.{slots_for}
+use Rattle.rows.specs.answers.Slots.{slots_for, slots_of}
 use Rattle.rows.specs.answers.Write.{source}
 use Rattle.demands.specs.facts.Told.{BoardAnswer}
 use Rattle.demands.specs.answers.Survey.{survey_fault}
@@ -20,7 +20,7 @@ use Rattle.demands.specs.answers.Answer.{answer_by, rows_by}
 use Rattle.board.specs.declared.Arrays.{Arrays}
 use Rattle.board.specs.declared.Counts.{Counts}
 use Rattle.board.specs.steps.Told.{survey_told}
-use Rattle.board.specs.steps.Survey.{survey_of, Lists, Listed, zeros, IsListed}
+use Rattle.board.specs.steps.Survey.{survey_of, Listed, zeros, IsListed}
 use Rattle.board.specs.steps.Read.{written_fault}
 use Rattle.board.proofs.ReadLaws.{survey_clear, counts_are, rooms_are, Met}
 use Rattle.board.proofs.SurveyLaws.{survey_few}
@@ -77,6 +77,12 @@ module _
       ≡ rows_by (written_fault n room entries slots.hash.bits)
       (source b.nodes b.pool lists.cpus.now lists.regs.now lists.leaves.now lists.named.now slots) before →
       Met b before room entries r after
-  met l before room entries is wrote =
-      rw (← rooms_are b found room entries, cpu_count_lem b, ← cpus_are, ← regs_are, ← leaves_are, ← named_are, ← l.cpus, ← l.regs, ← l.leaves, ← l.named)
-      (is, wrote)
+  met {lists} l before room entries is wrote =
+      let cpus : lists.cpus.now ≡ cpu_list b = l.cpus ∙ cpus_are in
+      let regs : lists.regs.now ≡ reg_list b = l.regs ∙ regs_are in
+      let leaves : lists.leaves.now ≡ leaves_of b = l.leaves ∙ leaves_are in
+      let named : lists.named.now ≡ named_of b = l.named ∙ named_are in
+      let count : length lists.cpus.now ≡ cpu_count b = ap length cpus ∙ sym (cpu_count_lem b) in
+      let slots : slots_for b.width lists.regs.now ≡ slots_of b = ap (slots_for b.width) regs in
+      let rooms = rooms_are b found room entries in
+      (rw (count, slots, rooms) at is, rw (count, slots, cpus, regs, leaves, named, rooms) at wrote)

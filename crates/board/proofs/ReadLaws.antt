@@ -9,18 +9,16 @@ use lib.Dec.{eqb}
 use lib.ListN.{length}
 use borrow.Author.Tests.{eq-eqb, ne_eqb}
 use Rattle.laws.specs.facts.Told.{Fault}
-use Rattle.laws.specs.facts.Limits.{no_property}
 use Rattle.laws.specs.declared.rules.Refusal.{Refusal}
-use Rattle.laws.specs.answers.Fault.{clear, told, or_else}
+use Rattle.laws.specs.answers.Fault.{clear}
 use Rattle.laws.specs.answers.Told.{told_of}
 use Rattle.laws.proofs.ToldLaws.{refusal_first, refusal_shown}
 use Rattle.tables.specs.facts.Board.{Board}
-use Rattle.cpus.specs.answers.Check.{cpu_count, cpu_list, reg_list}
+use Rattle.cpus.specs.answers.Check.{cpu_count}
 use Rattle.cpumap.specs.answers.Find.{map_of, map_fault, map_scan}
-use Rattle.leaves.specs.answers.Scan.{leaves_of, named_of}
-use Rattle.rows.specs.declared.BoardSlots.{BoardSlots}
-use Rattle.rows.specs.answers.Slots.{slots_of, board_hash}
-use Rattle.rows.specs.answers.Write.{source, written, source_of}
+use Rattle.leaves.specs.answers.Scan.{leaves_of}
+use Rattle.rows.specs.answers.Slots.{board_hash}
+use Rattle.rows.specs.answers.Write.{source_of}
 use Rattle.demands.specs.facts.Told.{BoardAnswer}
 use Rattle.board.specs.declared.Counts.{Counts}
 use Rattle.board.specs.steps.Told.{Surveyed, survey_told}

@@ -30,7 +30,7 @@ pub fn read_in_place(
         table.new ≡ rows_by fault (source_of b) table.old }
 {
     let size = table.len();
-    let held = words.min(size);
+    let held = size.min(words);
     let mut arrays = Arrays::empty();
     let props = &table[..held];
     let tables = Tables { nodes, props, pool };

@@ -4,6 +4,7 @@
 
 mod in_place;
 mod read;
+mod sized;
 mod survey;
 
 ghost use Rattle.std.specs.Prelude.{◌≡◌, ◌≤◌, length};
@@ -22,6 +23,7 @@ use laws::limits::MAX_CPUS;
 use layout::ROW_WORDS;
 use read::read;
 use rows::Lists;
+use sized::tables_sized;
 use tables::Tables;
 
 // What a survey counts: the cpu records and the leaves.
@@ -54,7 +56,7 @@ impl Arrays {
 
     // The lists that a survey counted.
     fn listed(&self, counts: Counts) -> Lists
-        requires cpus { (counts.cpus ≤ 256) × (counts.leaves ≤ 256) }
+        requires { (counts.cpus ≤ 256) × (counts.leaves ≤ 256) }
         ensures { IsListed self.now counts result }
     {
         Lists {
@@ -67,15 +69,12 @@ impl Arrays {
 }
 
 // Reads a board's tables.
-pub fn read_tables(
-    width: u32,
-    tables: &Tables,
-    rows: &mut [u32],
-) -> Result<BoardRows, Refusal>
+pub fn read_tables(width: u32, tables: &Tables, rows: &mut [u32]) -> Result<BoardRows, Refusal>
     ensures answer { board_told result ≡ answer_of (board_of width tables.now) (length rows.old) }
     ensures rows { rows.new ≡ rows_after (board_of width tables.now) rows.old }
     ensures demands { Demands (board_of width tables.now) rows.old (board_told result) rows.new }
 {
+    tables_sized(width, tables);
     read(width, tables, rows, None)
 }
 
@@ -95,6 +94,7 @@ pub fn read_slots(
     ensures demands { let b = board_of width tables.now in
         SlotTableDemands b rows.old table.old (board_told result) rows.new table.new }
 {
+    tables_sized(width, tables);
     let entries = Some(table.len());
     let found = read(width, tables, rows, entries)?;
     let words = ROW_WORDS * found.count;
