@@ -1,16 +1,22 @@
 // SPDX-License-Identifier: BSD-2-Clause OR GPL-2.0-or-later
 // The eleven words of an answer.
-ghost use Rattle.std.specs.Prelude.{◌≡◌, ◌≤◌, length};
-ghost use Rattle.sunderwath.specs.answers.Answer.{answer_size, answer_words, or_short, answer_after};
+ghost use Rattle.std.specs.Prelude.{◌≡◌, ◌≤◌, ◌<◌, ◌^◌, IfErr, length};
+ghost use Rattle.laws.specs.answers.Told.{second_of, told_of, told_in};
+ghost use Rattle.sunderwath.specs.answers.Answer.{answer_size, answer_words, or_short, answer_after, in_words};
 ghost use Rattle.sunderwath.specs.answers.Board.{board_words};
 ghost use Rattle.demands.specs.facts.Words.{Words};
+ghost use Rattle.demands.specs.answers.Told.{board_told};
 
 use affinity::Hash;
-use demands::BoardAnswer;
+use demands::BoardRows;
 use laws::limits::NO_PROPERTY;
+use laws::{Refusal, Rule};
 
 // The words of an answer.
 pub const ANSWER_WORDS: usize = 11;
+
+// What a call tells where its answer is too short.
+pub const ANSWER_SHORT: u32 = Rule::AnswerSpace as u32;
 
 // The second place of an answer that tells of no property.
 pub const NO_SECOND: u32 = NO_PROPERTY as u32;
@@ -22,22 +28,53 @@ pub const NO_HASH: Hash = Hash {
     bits: 0,
 };
 
+// What is told in words: number, place and second place.
+#[derive(Clone, Copy)]
+pub struct Told {
+    pub number: u32,
+    pub place: u32,
+    pub second: u32,
+}
+
+// No rule broken.
+pub const CLEAR: Told = Told {
+    number: 0,
+    place: 0,
+    second: NO_SECOND,
+};
+
+// What is told of a refusal.
+pub fn tell(refusal: Refusal) -> Told
+    requires { (refusal.place < 2 ^ 32) × (second_of refusal.property < 2 ^ 32) }
+    ensures { in_words result ≡ told_of refusal }
+{
+    Told {
+        number: refusal.rule.number(),
+        place: refusal.place as u32,
+        second: refusal.property.unwrap_or(NO_PROPERTY) as u32,
+    }
+}
+
+// What is told of a check.
+pub fn tell_check(checked: Result<(), Refusal>) -> Told
+    requires { IfErr checked (λ refusal. (refusal.place < 2 ^ 32) × (second_of refusal.property < 2 ^ 32)) }
+    ensures { in_words result ≡ told_in checked }
+{
+    match checked {
+        Ok(()) => CLEAR,
+        Err(refusal) => tell(refusal),
+    }
+}
+
 // Writes the eleven words at the start of an answer that has room for them, and gives its number: what each call owes.
-pub fn put_answer(
-    answer: &mut [u32],
-    number: u32,
-    place: u32,
-    second: u32,
-    third: u32,
-    hash: Hash,
-) -> u32
+pub fn put_answer(answer: &mut [u32], told: Told, third: u32, hash: Hash) -> u32
     requires { answer_size ≤ length answer.old }
-    ensures number { result ≡ or_short answer.old number }
-    ensures answer { answer.new ≡ answer_after answer.old (answer_words number place second third hash) }
+    ensures number { result ≡ or_short answer.old told.number }
+    ensures answer { answer.new ≡ answer_after answer.old (answer_words told.number told.place told.second third hash) }
 {
     let shifts = hash.shifts;
-    answer[0] = number;
-    answer[1] = place;
+    answer[0] = told.number;
+    answer[1] = told.place;
     answer[2] = third;
     answer[3] = (hash.mask % 4294967296) as u32;
     answer[4] = (hash.mask / 4294967296) as u32;
@@ -46,24 +83,19 @@ pub fn put_answer(
     answer[7] = shifts[2];
     answer[8] = shifts[3];
     answer[9] = hash.bits;
-    answer[10] = second;
-    number
+    answer[10] = told.second;
+    told.number
 }
 
 // The same for the answer of a board, whose numbers are words.
-pub fn put_board(answer: &mut [u32], found: BoardAnswer) -> u32
+pub fn put_board(answer: &mut [u32], found: Result<BoardRows, Refusal>) -> u32
     requires room { answer_size ≤ length answer.old }
-    requires words { Words found }
-    ensures number { result ≡ or_short answer.old found.number }
-    ensures answer { answer.new ≡ answer_after answer.old (board_words found) }
+    requires words { Words (board_told found) }
+    ensures number { result ≡ or_short answer.old (board_told found).number }
+    ensures answer { answer.new ≡ answer_after answer.old (board_words (board_told found)) }
 {
-    let hash = found.hash;
-    put_answer(
-        answer,
-        found.number,
-        found.place as u32,
-        found.second as u32,
-        found.count as u32,
-        hash,
-    )
+    match found {
+        Ok(board) => put_answer(answer, CLEAR, board.count as u32, board.hash),
+        Err(refusal) => put_answer(answer, tell(refusal), 0, NO_HASH),
+    }
 }

@@ -8,21 +8,19 @@ ghost use Rattle.loader.specs.answers.List.{byte_slot};
 ghost use Rattle.sunderwath.specs.answers.Answer.{or_short_of, answer_after_of};
 ghost use Rattle.sunderwath.specs.answers.Bytes.{reply_size, reply_bytes, image_reply, slot_reply, bytes_behind};
 
-use crate::answer::NO_SECOND;
-use laws::rules;
+use crate::answer::{ANSWER_SHORT, CLEAR, Told, tell};
 
 // The bytes of an answer: four words.
 const REPLY_BYTES: usize = 16;
 
 // Writes the four words at the start of an answer that has room for them, and gives its number.
-fn put_reply(answer: &mut [u8], number: u32, place: u32, second: u32, last: u32) -> u32
+fn put_reply(answer: &mut [u8], told: Told, last: u32) -> u32
     requires { reply_size ≤ length answer.old }
-    ensures number { result ≡ or_short_of reply_size answer.old number }
-    ensures answer { answer.new ≡ answer_after_of reply_size answer.old (reply_bytes number place second last) }
+    ensures number { result ≡ or_short_of reply_size answer.old told.number }
+    ensures answer { answer.new ≡ answer_after_of reply_size answer.old (reply_bytes told.number told.place told.second last) }
 {
-    let words = [number, place, second, last];
-    wire::put_words(answer, &words);
-    number
+    wire::put_words(answer, &[told.number, told.place, told.second, last]);
+    told.number
 }
 
 // Reads a flattened devicetree: rows as bytes and answer, or the first rule broken.
@@ -43,16 +41,12 @@ pub extern "C" fn sunderwath_read_blob(
         → ImageDemands width blob.now rows.old found rows.new) }
 {
     if answer.len() < REPLY_BYTES {
-        return rules::ANSWER_SPACE;
+        return ANSWER_SHORT;
     }
-    let found = loader::read_image(width, blob, rows);
-    put_reply(
-        answer,
-        found.number,
-        found.place as u32,
-        found.second as u32,
-        found.count as u32,
-    )
+    match loader::read_image(width, blob, rows) {
+        Ok(board) => put_reply(answer, CLEAR, board.count as u32),
+        Err(refusal) => put_reply(answer, tell(refusal), 0),
+    }
 }
 
 // The slot of one MPIDR in a list of MPIDRs, eight bytes each.
@@ -63,14 +57,10 @@ pub extern "C" fn sunderwath_slot(mpidr: u64, list: &[u8], answer: &mut [u8]) ->
     ensures demands { ByteSlotDemands list.now mpidr (byte_slot mpidr list.now) }
 {
     if answer.len() < REPLY_BYTES {
-        return rules::ANSWER_SPACE;
+        return ANSWER_SHORT;
     }
-    let found = loader::byte_slot(mpidr, list);
-    put_reply(
-        answer,
-        found.number,
-        found.place as u32,
-        NO_SECOND,
-        found.slot,
-    )
+    match loader::byte_slot(mpidr, list) {
+        Ok(slot) => put_reply(answer, CLEAR, slot),
+        Err(refusal) => put_reply(answer, tell(refusal), 0),
+    }
 }

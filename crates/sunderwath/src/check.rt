@@ -7,10 +7,9 @@ ghost use Rattle.wellformed.specs.answers.Check.{table_fault};
 ghost use Rattle.sunderwath.specs.answers.Answer.{or_short, answer_after};
 ghost use Rattle.sunderwath.specs.answers.Tables.{check_words, found_word, FindsWord};
 
-use crate::answer::{ANSWER_WORDS, NO_HASH, NO_SECOND, put_answer};
+use crate::answer::{ANSWER_SHORT, ANSWER_WORDS, NO_HASH, put_answer, tell_check};
 use laws::limits::NO_PROPERTY;
-use laws::{at_most, rules};
-use tables::record_of;
+use tables::{Tables, record_of};
 
 // The first of rules 1 to 8 that is broken.
 #[unsafe(no_mangle)]
@@ -26,17 +25,11 @@ pub extern "C" fn sunderwath_check_tables(
         ≡ answer_after answer.old (check_words (board width nodes.now props.now pool.now)) }
 {
     if answer.len() < ANSWER_WORDS {
-        return rules::ANSWER_SPACE;
+        return ANSWER_SHORT;
     }
-    let fault = wellformed::table_fault(width, nodes, props, pool);
-    put_answer(
-        answer,
-        fault.number,
-        fault.place as u32,
-        NO_SECOND,
-        0,
-        NO_HASH,
-    )
+    let tables = Tables { nodes, props, pool };
+    let told = tell_check(wellformed::table_fault(width, &tables));
+    put_answer(answer, told, 0, NO_HASH)
 }
 
 // The record number of a node's property, or 0xFFFFFFFF.
@@ -51,5 +44,5 @@ pub extern "C" fn sunderwath_find_property(
     ensures finds { FindsWord props.now pool.now node name.now result }
 {
     let found = lookup::find_property(props, pool, node as usize, name);
-    at_most(record_of(found), NO_PROPERTY) as u32
+    record_of(found).unwrap_or(NO_PROPERTY).min(NO_PROPERTY) as u32
 }

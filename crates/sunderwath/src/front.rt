@@ -7,9 +7,7 @@ pub fn put_front(answer: &mut [u32], words: &[u32])
     requires { length words.now ≤ length answer.old }
     ensures { answer.new ≡ words.now ++ drop (length words.now) answer.old }
 {
-    let mut i: usize = 0;
-    while i < words.len() {
-        answer[i] = words[i];
-        i += 1;
+    for (i, word) in words.iter().enumerate() {
+        answer[i] = *word;
     }
 }

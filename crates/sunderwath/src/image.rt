@@ -1,26 +1,38 @@
 // SPDX-License-Identifier: BSD-2-Clause OR GPL-2.0-or-later
 // The call on a flattened devicetree.
-ghost use Rattle.std.specs.Prelude.{◌≡◌, ◌≤◌, length};
+ghost use Rattle.std.specs.Prelude.{◌≡◌, ◌≤◌, ◌<◌, ◌^◌, IfErr, length};
+ghost use Rattle.flat.specs.answers.Told.{blob_told};
 ghost use Rattle.flat.specs.facts.Reading.{BlobReading};
 ghost use Rattle.flat.specs.answers.Answer.{blob_answer};
 ghost use Rattle.sunderwath.specs.answers.Answer.{or_short_of, answer_after_of};
 ghost use Rattle.sunderwath.specs.answers.Flat.{flat_size, flat_words, nodes_behind, props_behind};
 
-use flat::BlobAnswer;
-use laws::rules;
+use crate::answer::ANSWER_SHORT;
+use crate::front::put_front;
+use flat::BlobCounts;
+use laws::Refusal;
 
 // The words of the answer.
 const FLAT_WORDS: usize = 4;
 
-// Writes the four words at the start of an answer that has room for them.
-fn put_flat(answer: &mut [u32], found: BlobAnswer)
-    requires { flat_size ≤ length answer.old }
-    ensures { answer.new ≡ answer_after_of flat_size answer.old (flat_words found) }
+// Writes the four words at the start of an answer that has room for them, and gives its number.
+fn put_flat(answer: &mut [u32], found: Result<BlobCounts, Refusal>) -> u32
+    requires room { flat_size ≤ length answer.old }
+    requires place { IfErr found (λ refusal. refusal.place < 2 ^ 32) }
+    ensures number { result ≡ (blob_told found).number }
+    ensures answer { answer.new ≡ answer_after_of flat_size answer.old (flat_words (blob_told found)) }
 {
-    answer[0] = found.number;
-    answer[1] = found.place;
-    answer[2] = found.nodes;
-    answer[3] = found.props;
+    match found {
+        Ok(counts) => {
+            put_front(answer, &[0, 0, counts.nodes, counts.props]);
+            0
+        }
+        Err(refusal) => {
+            let number = refusal.rule.number();
+            put_front(answer, &[number, refusal.place as u32, 0, 0]);
+            number
+        }
+    }
 }
 
 // Reads a flattened devicetree: the records of its `/cpus` node, or the first rule broken.
@@ -42,10 +54,7 @@ pub extern "C" fn sunderwath_read_flat(
         → BlobReading blob.now nodes.old props.old found nodes.new props.new) }
 {
     if answer.len() < FLAT_WORDS {
-        return rules::ANSWER_SPACE;
+        return ANSWER_SHORT;
     }
-    let found = blob::read_blob(blob, nodes, props);
-    let number = found.number;
-    put_flat(answer, found);
-    number
+    put_flat(answer, blob::read_blob(blob, nodes, props))
 }

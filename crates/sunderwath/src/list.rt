@@ -5,8 +5,7 @@ ghost use Rattle.affinity.specs.answers.List.{hash_answer, slot_answer};
 ghost use Rattle.sunderwath.specs.answers.Answer.{or_short, answer_after};
 ghost use Rattle.sunderwath.specs.answers.List.{hash_words, slot_words};
 
-use crate::answer::{ANSWER_WORDS, NO_HASH, NO_SECOND, put_answer};
-use laws::rules;
+use crate::answer::{ANSWER_SHORT, ANSWER_WORDS, CLEAR, NO_HASH, put_answer, tell};
 
 // The hash of a list of MPIDRs.
 #[unsafe(no_mangle)]
@@ -15,11 +14,12 @@ pub extern "C" fn sunderwath_list_hash(list: &[u64], answer: &mut [u32]) -> u32
     ensures answer { answer.new ≡ answer_after answer.old (hash_words list.now) }
 {
     if answer.len() < ANSWER_WORDS {
-        return rules::ANSWER_SPACE;
+        return ANSWER_SHORT;
     }
-    let found = affinity::list_hash(list);
-    let hash = found.hash;
-    put_answer(answer, found.number, found.place as u32, NO_SECOND, 0, hash)
+    match affinity::list_hash(list) {
+        Ok(hash) => put_answer(answer, CLEAR, 0, hash),
+        Err(refusal) => put_answer(answer, tell(refusal), 0, NO_HASH),
+    }
 }
 
 // The slot of one MPIDR in a list of MPIDRs.
@@ -29,15 +29,10 @@ pub extern "C" fn sunderwath_list_slot(mpidr: u64, list: &[u64], answer: &mut [u
     ensures answer { answer.new ≡ answer_after answer.old (slot_words mpidr list.now) }
 {
     if answer.len() < ANSWER_WORDS {
-        return rules::ANSWER_SPACE;
+        return ANSWER_SHORT;
     }
-    let found = affinity::list_slot(mpidr, list);
-    put_answer(
-        answer,
-        found.number,
-        found.place as u32,
-        NO_SECOND,
-        found.slot,
-        NO_HASH,
-    )
+    match affinity::list_slot(mpidr, list) {
+        Ok(slot) => put_answer(answer, CLEAR, slot, NO_HASH),
+        Err(refusal) => put_answer(answer, tell(refusal), 0, NO_HASH),
+    }
 }

@@ -9,8 +9,8 @@ ghost use Rattle.plan.specs.answers.Slot.{plan_slot};
 ghost use Rattle.sunderwath.specs.answers.Answer.{or_short_of, answer_after_of};
 ghost use Rattle.sunderwath.specs.answers.Plan.{plan_check_size, plan_check_words, plan_slot_size, plan_slot_words, plan_size, plan_words};
 
+use crate::answer::{ANSWER_SHORT, tell, tell_check};
 use crate::front::put_front;
-use laws::rules;
 
 // The words of the three answers.
 const CHECK_WORDS: usize = 2;
@@ -31,12 +31,11 @@ pub extern "C" fn sunderwath_plan_check(list: &[u64], positions: &[u32], answer:
     ensures demands { PlanDemands list.now positions.now (plan_fault list.now positions.now) }
 {
     if answer.len() < CHECK_WORDS {
-        return rules::ANSWER_SPACE;
+        return ANSWER_SHORT;
     }
-    let found = plan::check_plan(list, positions);
-    let words = [found.number, found.place as u32];
-    put_front(answer, &words);
-    found.number
+    let told = tell_check(plan::check_plan(list, positions));
+    put_front(answer, &[told.number, told.place]);
+    told.number
 }
 
 // The slot of one MPIDR of a list under a plan.
@@ -53,12 +52,19 @@ pub extern "C" fn sunderwath_plan_slot(
     ensures demands { PlanSlotDemands list.now positions.now mpidr (plan_slot mpidr list.now positions.now) }
 {
     if answer.len() < SLOT_WORDS {
-        return rules::ANSWER_SPACE;
+        return ANSWER_SHORT;
     }
-    let found = plan::plan_slot(mpidr, list, positions);
-    let words = [found.number, found.place as u32, found.slot];
-    put_front(answer, &words);
-    found.number
+    match plan::plan_slot(mpidr, list, positions) {
+        Ok(slot) => {
+            put_front(answer, &[0, 0, slot]);
+            0
+        }
+        Err(refusal) => {
+            let told = tell(refusal);
+            put_front(answer, &[told.number, told.place, 0]);
+            told.number
+        }
+    }
 }
 
 // A plan for a list, from which no position can be dropped.
@@ -69,12 +75,19 @@ pub extern "C" fn sunderwath_plan_make(list: &[u64], answer: &mut [u32]) -> u32
     ensures demands { MakeDemands list.now (plan_answer list.now) }
 {
     if answer.len() < PLAN_WORDS {
-        return rules::ANSWER_SPACE;
+        return ANSWER_SHORT;
     }
-    let found = plan::plan_of(list);
-    let words = [found.number, found.place as u32, found.count as u32];
-    put_front(answer, &words);
-    let positions = found.positions;
-    put_front(&mut answer[BEFORE_POSITIONS..], &positions);
-    found.number
+    match plan::plan_of(list) {
+        Ok(plan) => {
+            put_front(answer, &[0, 0, plan.count as u32]);
+            put_front(&mut answer[BEFORE_POSITIONS..], &plan.positions);
+            0
+        }
+        Err(refusal) => {
+            let told = tell(refusal);
+            put_front(answer, &[told.number, told.place, 0]);
+            put_front(&mut answer[BEFORE_POSITIONS..], &[0; 32]);
+            told.number
+        }
+    }
 }

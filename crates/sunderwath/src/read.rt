@@ -7,8 +7,8 @@ ghost use Rattle.demands.specs.facts.Reading.{Demands};
 ghost use Rattle.sunderwath.specs.answers.Answer.{answer_size, or_short, answer_after};
 ghost use Rattle.sunderwath.specs.answers.Board.{board_words, rows_behind};
 
-use crate::answer::{ANSWER_WORDS, put_board};
-use laws::rules;
+use crate::answer::{ANSWER_SHORT, ANSWER_WORDS, put_board};
+use tables::Tables;
 
 // Reads a board's tables: rows and answer, or the first rule broken.
 #[unsafe(no_mangle)]
@@ -31,8 +31,8 @@ pub extern "C" fn sunderwath_read_tables(
         → Demands b rows.old (answer_of b (length rows.old)) rows.new) }
 {
     if answer.len() < ANSWER_WORDS {
-        return rules::ANSWER_SPACE;
+        return ANSWER_SHORT;
     }
-    let found = board::read_tables(width, nodes, props, pool, rows);
-    put_board(answer, found)
+    let tables = Tables { nodes, props, pool };
+    put_board(answer, board::read_tables(width, &tables, rows))
 }

@@ -7,8 +7,8 @@ ghost use Rattle.demands.specs.facts.Slots.{SlotTableDemands};
 ghost use Rattle.sunderwath.specs.answers.Answer.{answer_size, or_short, answer_after};
 ghost use Rattle.sunderwath.specs.answers.Board.{board_words, slots_rows_behind, slots_table_behind};
 
-use crate::answer::{ANSWER_WORDS, put_board};
-use laws::rules;
+use crate::answer::{ANSWER_SHORT, ANSWER_WORDS, put_board};
+use tables::Tables;
 
 // Reads a board's tables: rows, table of slots and answer, or the first rule broken.
 #[unsafe(no_mangle)]
@@ -37,8 +37,8 @@ pub extern "C" fn sunderwath_read_tables_slots(
         → SlotTableDemands b rows.old table.old found rows.new table.new) }
 {
     if answer.len() < ANSWER_WORDS {
-        return rules::ANSWER_SPACE;
+        return ANSWER_SHORT;
     }
-    let found = board::read_slots(width, nodes, props, pool, rows, table);
-    put_board(answer, found)
+    let tables = Tables { nodes, props, pool };
+    put_board(answer, board::read_slots(width, &tables, rows, table))
 }

@@ -2,6 +2,8 @@
 -- The words of an exported call's answer, and what is left where there is no room for them.
 use Rattle.std.specs.Prelude.{List, [], ◌∷◌, ◌++◌, cond, ℕ, ◌/◌, ◌%◌, ◌^◌, get_or, length, drop, ltb}
 use Rattle.affinity.specs.declared.Hash.{Hash}
+use Rattle.laws.specs.facts.Told.{Fault}
+use Rattle.sunderwath.specs.declared.answer.Told.{Told}
 
 abbrev pub answer_size : ℕ
 answer_size = 11
@@ -30,3 +32,7 @@ or_short = or_short_of answer_size
 
 abbrev pub answer_after : List ℕ → List ℕ → List ℕ
 answer_after = answer_after_of answer_size
+
+-- what is told in words
+abbrev pub in_words : Told → Fault
+in_words t = record { number = t.number; place = t.place; second = t.second }

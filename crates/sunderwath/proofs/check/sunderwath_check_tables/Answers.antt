@@ -1,17 +1,24 @@
 -- SPDX-License-Identifier: BSD-2-Clause OR GPL-2.0-or-later
--- `sunderwath_check_tables` meets its contract. Assumes nothing.
+-- `sunderwath_check_tables` writes what the library answers: rules 1 to 8 are told of no property. Assumes nothing.
+use mathlib.Core.Path.{ap, ◌∙◌}
 use native.Mathlib.Omega.{arith}
-use lib.ListN.{length}
-use borrow.Author.Tests.{lt-ltb}
+use Rattle.laws.specs.facts.Told.{Fault}
+use Rattle.tables.specs.facts.Board.{board}
 use Rattle.wellformed.proofs.RuleLaws.{table_place}
-use Rattle.sunderwath.proofs.CallLaws.{word_holds}
+use Rattle.wellformed.proofs.SecondTables.{tables_plain}
+use Rattle.sunderwath.proofs.CallLaws.{check_in_words}
 use Rattle.sunderwath.proofs.check.sunderwath_check_tables.Goals as goal
 
-pub returns-then-answer-lt-ANSWER_WORDS : goal.returns-then-answer-lt-ANSWER_WORDS
-returns-then-answer-lt-ANSWER_WORDS c = let short = lt-ltb (length c.args.answer.now) 11 (omega arith) in record { number = rw short; answer = rw short }
+pub tell_check-told-requires : goal.tell_check-told-requires
+tell_check-told-requires c =
+    let a = c.args in
+    let b = board a.width a.nodes.now a.props.now a.pool.now in
+    check_in_words c.table_fault.result _ c.table_fault.ensures (omega (arith, table_place b)) (rw (tables_plain b) (omega arith))
 
-pub overflow_cast-fault : goal.overflow_cast-fault
-overflow_cast-fault c = rw c.table_fault-fault.ensures (word_holds (table_place _) (omega arith))
-
-pub returns : goal.returns
-returns c = rw (← c.table_fault-fault.ensures) c.put_answer.ensures
+pub returns-clause-answer : goal.returns-clause-answer
+returns-clause-answer c =
+    let a = c.args in
+    let b = board a.width a.nodes.now a.props.now a.pool.now in
+    let same = c.tell_check-told.ensures ∙ c.table_fault.ensures in
+    let silent = ap (λ (f : Fault). f.second) same ∙ tables_plain b in
+    rw (← same) (rw silent at c.put_answer.ensures.answer)
