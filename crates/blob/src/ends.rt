@@ -5,7 +5,6 @@ ghost use Rattle.std.specs.Prelude.{◌≡◌, ◌+◌, ◌/◌, ◌≤◌, leng
 ghost use Rattle.tokens.specs.answers.Read.{zero_from};
 ghost use Rattle.blob.specs.steps.Ends.{EndsFrom};
 
-use laws::at_most;
 use tokens::zero_from;
 
 const RUN_BYTES: usize = 512;
@@ -22,7 +21,7 @@ pub fn name_end(bytes: &[u8], ends: &[u32; MAX_RUNS], at: usize) -> usize
     if bytes.len() <= at {
         return at;
     }
-    let edge = at_most((at / RUN_BYTES + 1) * RUN_BYTES, bytes.len());
+    let edge = ((at / RUN_BYTES + 1) * RUN_BYTES).min(bytes.len());
     let stop = zero_from(&bytes[..edge], at);
     if stop < edge {
         return stop;
@@ -38,9 +37,8 @@ pub fn note_ends(bytes: &[u8], ends: &mut [u32; MAX_RUNS])
     requires { (length bytes.now ≤ 65536) × (length ends.old ≡ 128) }
     ensures { EndsFrom bytes.now ends.new 0 }
 {
-    let mut k = (bytes.len() + 511) / RUN_BYTES;
-    while 0 < k {
-        k -= 1;
+    let runs = bytes.len().div_ceil(RUN_BYTES);
+    for k in (0..runs).rev() {
         let end = name_end(bytes, ends, k * RUN_BYTES);
         ends[k] = end as u32;
     }

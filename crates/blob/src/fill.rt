@@ -4,7 +4,7 @@ ghost use Rattle.std.specs.Prelude.{◌≡◌, cond, ◌++◌, ◌+◌, ◌≤�
 ghost use Rattle.flat.specs.answers.Fill.{has_outer, filled_from};
 
 use crate::ends::{MAX_RUNS, name_end, note_ends};
-use crate::put::{put_node, put_prop};
+use crate::put::put_record;
 use laws::limits::NO_PARENT;
 use tables::node_word;
 use tokens::{TokenRead, known_at};
@@ -14,12 +14,11 @@ fn behind_close(at: usize, end: usize, top: usize, count: usize) -> usize
     requires { at ≤ 65536 }
     ensures { result ≡ cond (has_outer top count) (at + 4) end }
 {
-    if 0 < top {
-        if top < count {
-            return at + 4;
-        }
+    if 0 < top && top < count {
+        at + 4
+    } else {
+        end
     }
-    end
 }
 
 // Fills both tables from their fronts; they have room for all records. The strings block begins at `base`.
@@ -48,7 +47,7 @@ pub fn fill(
     while at < block.len() {
         match known_at(block, strings.len(), at) {
             TokenRead::Begin { len, next } => {
-                put_node(nodes, count, top, at + 4, len);
+                put_record(nodes, count, [top as u32, (at + 4) as u32, len as u32]);
                 top = count;
                 count += 1;
                 at = next;
@@ -59,17 +58,20 @@ pub fn fill(
             }
             TokenRead::Property { name, size, next } => {
                 let len = name_end(strings, &ends, name) - name;
-                put_prop(props, owned, top, base + name, len, at + 12, size);
+                let key = base + name;
+                let value = at + 12;
+                put_record(
+                    props,
+                    owned,
+                    [top as u32, key as u32, len as u32, value as u32, size as u32],
+                );
                 owned += 1;
                 at = next;
             }
             TokenRead::Nop => {
                 at += 4;
             }
-            TokenRead::End => {
-                at = block.len();
-            }
-            TokenRead::Unsound => {
+            TokenRead::End | TokenRead::Unsound => {
                 at = block.len();
             }
         }

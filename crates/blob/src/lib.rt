@@ -14,9 +14,8 @@ ghost use Rattle.flat.specs.facts.Reading.{BlobReading};
 ghost use Rattle.flat.specs.answers.Answer.{blob_answer, nodes_after, props_after};
 
 use blocks::read_blocks;
-use count::refused;
 use flat::BlobCounts;
-use laws::{Refusal, Rule};
+use laws::Refusal;
 
 // Reads a blob. The blob is the pool of the records: offsets count from its start.
 pub fn read_blob(
@@ -31,12 +30,8 @@ pub fn read_blob(
     ensures place { IfErr result (λ refusal. refusal.place < 2 ^ 32) }
     ensures plain { IfErr result (λ refusal. refusal.property ≡ None) }
 {
-    if header::header_fault(blob) != 0 {
-        return refused(rules::BLOB_HEADER, 0);
-    }
-    if header::blocks_fault(blob) != 0 {
-        return refused(rules::BLOB_BLOCKS, 0);
-    }
+    header::header_fault(blob)?;
+    header::blocks_fault(blob)?;
     let found = header::block_places(blob);
     let end = found.start + found.size;
     let base = found.strings;

@@ -8,25 +8,10 @@ use Rattle.tokens.proofs.ZeroLaws.{zero_inside}
 use Rattle.blob.proofs.EndLaws.{ends_more}
 use Rattle.blob.proofs.ends.note_ends.Goals as goal
 
-pub loop-k-init : goal.loop-k-init
-loop-k-init c = (omega arith, omega arith, λ j le lt. absurd (omega arith))
-
-pub overflow_mul-k : goal.overflow_mul-k
-overflow_mul-k c = omega arith
-
-pub name_end-end-requires : goal.name_end-end-requires
-name_end-end-requires c = record { size = omega arith; ends = λ j le lt. c.loop-k.invariant.2 j (omega arith) lt }
-
 pub overflow_cast-ends : goal.overflow_cast-ends
 overflow_cast-ends c =
     let b = c.args.bytes.now in
     omega (arith, c.name_end-end.ensures, zero_inside b ((c.loop-k.k - 1) * 512) (omega arith))
-
-pub offset_bounds-ends-k : goal.offset_bounds-ends-k
-offset_bounds-ends-k c = omega arith
-
-pub bounds-ends-k : goal.bounds-ends-k
-bounds-ends-k c = omega arith
 
 pub loop-k-preserved : goal.loop-k-preserved
 loop-k-preserved c =
@@ -34,8 +19,4 @@ loop-k-preserved c =
     let k = c.loop-k.k - 1 in
     let run : k * 512 ≡ 512 * k = omega arith in
     let here = c.name_end-end.ensures ∙ ap (zero_from a.bytes.now) run in
-    let more = ends_more a.bytes.now c.loop-k.ends k c.name_end-end.result (omega arith) (λ j le lt. c.loop-k.invariant.2 j (omega arith) lt) here in
-    (omega arith, simp length-set (omega arith), more)
-
-pub returns : goal.returns
-returns c = λ j le lt. c.loop-k.invariant.2 j (omega arith) lt
+    ends_more a.bytes.now c.loop-k.ends k c.name_end-end.result (omega arith) (λ j le lt. c.loop-k.invariant j (omega arith) lt) here

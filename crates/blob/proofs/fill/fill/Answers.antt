@@ -1,6 +1,7 @@
 -- SPDX-License-Identifier: BSD-2-Clause OR GPL-2.0-or-later
 -- `fill` meets its contract: each token does to the tables what `Filling` says of it. Assumes nothing.
 use mathlib.Core.Path.{refl, sym, ◌∙◌}
+use mathlib.Core.Logic.{⊎_elim}
 use Prim.Native.Nat.{ℕ, ◌+◌, ◌<◌}
 use native.Mathlib.Omega.{arith}
 use lib.ListN.{length}
@@ -25,16 +26,20 @@ loop-at-init c =
 pub overflow_add-at : goal.overflow_add-at
 overflow_add-at c = omega (arith, c.loop-at-test.true, c.loop-at.invariant.small)
 
-pub put_node-requires : goal.put_node-requires
-put_node-requires c =
+pub overflow_cast-top : goal.overflow_cast-top
+overflow_cast-top c = omega (arith, c.loop-at.invariant.open_fits)
+
+pub overflow_cast-len : goal.overflow_cast-len
+overflow_cast-len c =
     let a = c.args in
-    let inv = c.loop-at.invariant in
     let is = sym c.known_at.ensures ∙ c.in-Begin.is in
     let told = begin_told a.block.now (length a.strings.now) c.loop-at.at c.in-Begin.len c.in-Begin.next is in
-    record {
-      place = node_fits inv c.loop-at-test.true c.in-Begin.len c.in-Begin.next is;
-      words = (inv.open_fits, omega (arith, c.loop-at-test.true, inv.small), omega (arith, told.0, inv.small));
-    }
+    omega (arith, told.0, c.loop-at.invariant.small)
+
+pub put_record-requires : goal.put_record-requires
+put_record-requires c =
+    let is = sym c.known_at.ensures ∙ c.in-Begin.is in
+    (omega arith, node_fits c.loop-at.invariant c.loop-at-test.true c.in-Begin.len c.in-Begin.next is)
 
 pub overflow_add-count : goal.overflow_add-count
 overflow_add-count c = omega (arith, c.loop-at-test.true, c.loop-at.invariant.small, c.loop-at.invariant.few_nodes)
@@ -49,7 +54,7 @@ loop-at-smaller-in-Begin c =
 pub loop-at-preserved-in-Begin : goal.loop-at-preserved-in-Begin
 loop-at-preserved-in-Begin c =
     filling_begin c.loop-at.invariant c.loop-at-test.true c.in-Begin.len c.in-Begin.next (sym c.known_at.ensures ∙ c.in-Begin.is)
-    c.put_node.new.nodes c.put_node.ensures (λ k. omega (arith, c.type_inv.nodes k))
+    c.put_record.new.table c.put_record.ensures (λ k. omega (arith, c.type_inv.nodes k))
 
 pub behind_close-at-requires : goal.behind_close-at-requires
 behind_close-at-requires c = omega (arith, c.loop-at-test.true, c.loop-at.invariant.small)
@@ -73,36 +78,43 @@ name_end-requires c =
 pub overflow_sub-len : goal.overflow_sub-len
 overflow_sub-len c = omega (arith, c.name_end.ensures, zero_not_before c.args.strings.now c.in-Property.name)
 
-pub overflow_add-base : goal.overflow_add-base
-overflow_add-base c =
+pub overflow_add-key : goal.overflow_add-key
+overflow_add-key c =
     let a = c.args in
     let p = c.in-Property in
     let told = property_told a.block.now (length a.strings.now) c.loop-at.at p.name p.size p.next (sym c.known_at.ensures ∙ p.is) in
     omega (arith, told.0, c.requires.sizes.1)
 
-pub overflow_add-at-in-Property : goal.overflow_add-at-in-Property
-overflow_add-at-in-Property c = omega (arith, c.loop-at-test.true, c.loop-at.invariant.small)
+pub overflow_cast-top-in-Property : goal.overflow_cast-top-in-Property
+overflow_cast-top-in-Property c = omega (arith, c.loop-at.invariant.open_fits)
 
-pub put_prop-requires : goal.put_prop-requires
-put_prop-requires c =
+pub overflow_cast-key : goal.overflow_cast-key
+overflow_cast-key c =
     let a = c.args in
     let p = c.in-Property in
-    let inv = c.loop-at.invariant in
-    let is = sym c.known_at.ensures ∙ p.is in
-    let told = property_told a.block.now (length a.strings.now) c.loop-at.at p.name p.size p.next is in
+    let told = property_told a.block.now (length a.strings.now) c.loop-at.at p.name p.size p.next (sym c.known_at.ensures ∙ p.is) in
+    omega (arith, told.0, c.requires.sizes.1)
+
+pub overflow_cast-len-in-Property : goal.overflow_cast-len-in-Property
+overflow_cast-len-in-Property c =
+    let a = c.args in
+    let p = c.in-Property in
+    let told = property_told a.block.now (length a.strings.now) c.loop-at.at p.name p.size p.next (sym c.known_at.ensures ∙ p.is) in
     let name_in = told.0 in
-    let strings_in = c.requires.sizes.1 in
     let stop = zero_inside a.strings.now p.name (omega arith) in
-    record {
-      place = prop_fits inv c.loop-at-test.true p.name p.size p.next is;
-      words = (
-        inv.open_fits,
-        omega (arith, name_in, strings_in),
-        omega (arith, strings_in, stop, c.name_end.ensures),
-        omega (arith, c.loop-at-test.true, inv.small),
-        omega (arith, told.1, cell_lt a.block.now (c.loop-at.at + 4) (λ k. omega (arith, c.type_inv.block k))),
-      );
-    }
+    omega (arith, c.requires.sizes.1, stop, c.name_end.ensures)
+
+pub overflow_cast-size : goal.overflow_cast-size
+overflow_cast-size c =
+    let a = c.args in
+    let p = c.in-Property in
+    let told = property_told a.block.now (length a.strings.now) c.loop-at.at p.name p.size p.next (sym c.known_at.ensures ∙ p.is) in
+    omega (arith, told.1, cell_lt a.block.now (c.loop-at.at + 4) (λ k. omega (arith, c.type_inv.block k)))
+
+pub put_record-requires-in-Property : goal.put_record-requires-in-Property
+put_record-requires-in-Property c =
+    let p = c.in-Property in
+    (omega arith, prop_fits c.loop-at.invariant c.loop-at-test.true p.name p.size p.next (sym c.known_at.ensures ∙ p.is))
 
 pub overflow_add-owned : goal.overflow_add-owned
 overflow_add-owned c = omega (arith, c.loop-at-test.true, c.loop-at.invariant.small, c.loop-at.invariant.few_props)
@@ -117,8 +129,8 @@ loop-at-smaller-in-Property c =
 pub loop-at-preserved-in-Property : goal.loop-at-preserved-in-Property
 loop-at-preserved-in-Property c =
     let p = c.in-Property in
-    filling_prop c.loop-at.invariant c.loop-at-test.true p.name p.size p.next (sym c.known_at.ensures ∙ p.is) c.put_prop.new.props
-    (rw c.name_end.ensures at c.put_prop.ensures)
+    filling_prop c.loop-at.invariant c.loop-at-test.true p.name p.size p.next (sym c.known_at.ensures ∙ p.is) c.put_record-in-Property.new.table
+    (rw c.name_end.ensures at c.put_record-in-Property.ensures)
 
 pub overflow_add-at-in-Nop : goal.overflow_add-at-in-Nop
 overflow_add-at-in-Nop c = omega (arith, c.loop-at-test.true, c.loop-at.invariant.small)
@@ -129,17 +141,16 @@ loop-at-smaller-in-Nop c = omega (arith, c.loop-at-test.true)
 pub loop-at-preserved-in-Nop : goal.loop-at-preserved-in-Nop
 loop-at-preserved-in-Nop c = filling_nop c.loop-at.invariant c.loop-at-test.true (sym c.known_at.ensures ∙ c.in-Nop.is)
 
-pub loop-at-smaller-in-End : goal.loop-at-smaller-in-End
-loop-at-smaller-in-End c = omega (arith, c.loop-at-test.true)
-
-pub loop-at-preserved-in-End : goal.loop-at-preserved-in-End
-loop-at-preserved-in-End c = filling_end c.loop-at.invariant c.loop-at-test.true (sym c.known_at.ensures ∙ c.in-End.is)
-
 pub loop-at-smaller : goal.loop-at-smaller
 loop-at-smaller c = omega (arith, c.loop-at-test.true)
 
 pub loop-at-preserved : goal.loop-at-preserved
-loop-at-preserved c = filling_unsound c.loop-at.invariant c.loop-at-test.true (sym c.known_at.ensures ∙ c.in-Unsound.is)
+loop-at-preserved c =
+    let at_end = sym c.known_at.ensures in
+    ⊎_elim
+    (λ e. filling_end c.loop-at.invariant c.loop-at-test.true (at_end ∙ e))
+    (λ e. filling_unsound c.loop-at.invariant c.loop-at-test.true (at_end ∙ e))
+    c.in-End.is
 
 pub shape_of-nodes : goal.shape_of-nodes
 shape_of-nodes c = nodes_length c.loop-at.invariant
