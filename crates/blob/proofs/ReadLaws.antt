@@ -1,15 +1,15 @@
 -- SPDX-License-Identifier: BSD-2-Clause OR GPL-2.0-or-later
 -- What the reader knows behind the header, and that what it answers and leaves is what is claimed. Assumes nothing.
-use mathlib.Core.Path.{◌≡◌, sym, ap, ◌∙◌, subst}
+use mathlib.Core.Path.{◌≡◌, refl, sym, ap, ◌∙◌, subst}
 use mathlib.Core.List.{List, ◌++◌}
-use Prim.Native.Nat.{ℕ, suc, ◌+◌, ◌-◌, ◌≤◌}
+use Prim.Native.Nat.{ℕ, ◌+◌, ◌-◌, ◌≤◌}
 use native.Mathlib.Omega.{arith}
 use lib.ListN.{length, take, drop, length-drop}
 use lib.Seq.{length-take-le}
 use borrow.Author.Tests.{eq-eqb, ne_eqb}
 use Rattle.laws.specs.facts.Limits.{max_blob}
 use Rattle.laws.proofs.OverLaws.{over_fits}
-use Rattle.laws.proofs.VerdictLaws.{verdict_sound}
+use Rattle.laws.proofs.VerdictLaws.{Verdict, verdict_sound}
 use Rattle.tokens.specs.facts.Token.{Blocks}
 use Rattle.header.specs.facts.Header.{structure_at, structure_size, strings_at, strings_size, blocks_of}
 use Rattle.header.specs.declared.BlockPlaces.{BlockPlaces}
@@ -84,6 +84,11 @@ module _ (b : Blocks) (nodes props : List ℕ) {answer : BlobAnswer} (is : answe
       let fits = room zero in
       (is, (f ∙ rw e (sym (over_fits (filled_in b).nodes nodes fits.0)), g ∙ rw e (sym (over_fits (filled_in b).props props fits.1))))
 
+-- the number that is told of a broken rule
+number_told : {R : ℕ → ℕ → Type 0} {n p v : ℕ} {P : Type 0} → Verdict R n p P v → (v ≡ 0 → ⊥) → v ≡ n
+number_told (Verdict.sound h) ne = absurd (ne refl)
+number_told (Verdict.broken r) ne = refl
+
 -- what is answered of a blob, by what its header says
 module _ (blob nodes props : List ℕ) where
   abbrev told : BlobAnswer
@@ -104,19 +109,25 @@ module _ (blob nodes props : List ℕ) where
       Owed answer nodes' props'
   met e f g = (e, (f, (g, rw (e, f, g) (claim blob nodes props))))
 
-  refused_met : (n p : ℕ) → blob_refused (suc n) p ≡ told → Owed (blob_refused (suc n) p) nodes props
-  refused_met n p e =
-      let stays = after_refused blob nodes props (subst (λ (a : BlobAnswer). a.number ≡ 0 → ⊥) e (λ z. omega arith)) in
+  refused_met : {n p : ℕ} → (n ≡ 0 → ⊥) → blob_refused n p ≡ told → Owed (blob_refused n p) nodes props
+  refused_met ne e =
+      let stays = after_refused blob nodes props (subst (λ (a : BlobAnswer). a.number ≡ 0 → ⊥) e ne) in
       met e (sym stays.0) (sym stays.1)
 
-  pub header_met : (header_fault blob ≡ 0 → ⊥) → Owed (blob_refused 31 0) nodes props
+  pub header_met : {n : ℕ} → n ≡ header_fault blob → (n ≡ 0 → ⊥) → Owed (blob_refused n 0) nodes props
   unfolding blob_answer
-  header_met ne = refused_met 30 0 (rw (ne_eqb (header_fault blob) 0 ne))
+  header_met is ne =
+      let broken : header_fault blob ≡ 0 → ⊥ = λ z. ne (is ∙ z) in
+      let number = is ∙ number_told (header_verdict blob 0 0) broken in
+      refused_met ne (rw (ne_eqb (header_fault blob) 0 broken, number))
 
   module _ (h : header_fault blob ≡ 0) where
-    pub blocks_met : (blocks_fault blob ≡ 0 → ⊥) → Owed (blob_refused 32 0) nodes props
+    pub blocks_met : {n : ℕ} → n ≡ blocks_fault blob → (n ≡ 0 → ⊥) → Owed (blob_refused n 0) nodes props
     unfolding blob_answer
-    blocks_met ne = refused_met 31 0 (rw (eq-eqb (header_fault blob) 0 h, ne_eqb (blocks_fault blob) 0 ne))
+    blocks_met is ne =
+        let broken : blocks_fault blob ≡ 0 → ⊥ = λ z. ne (is ∙ z) in
+        let number = is ∙ number_told (blocks_verdict blob 0 0) broken in
+        refused_met ne (rw (eq-eqb (header_fault blob) 0 h, ne_eqb (blocks_fault blob) 0 broken, number))
 
     module _ (k : blocks_fault blob ≡ 0) where
       told_walk : told ≡ walk_answer (length nodes) (length props) (walk_in (blocks_of blob))

@@ -32,8 +32,9 @@ pub fn read_blocks(
     ensures place { IfErr result (λ refusal. refusal.place < 2 ^ 32) }
     ensures plain { IfErr result (λ refusal. refusal.property ≡ None) }
 {
-    let found = stream::survey(block, tokens::behind_zero(strings), start);
-    let w = found.map_err(|place| Rule::BlobStructure.at(place))?;
+    let w = stream::survey(block, tokens::behind_zero(strings), start).map_err(
+        |place| Rule::BlobStructure.at(place),
+    )?;
     let counts = count_answer(w, nodes.len(), props.len())?;
     fill(block, w.first, strings, base, nodes, props);
     Ok(counts)

@@ -14,11 +14,7 @@ fn behind_close(at: usize, end: usize, top: usize, count: usize) -> usize
     requires { at ≤ 65536 }
     ensures { result ≡ cond (has_outer top count) (at + 4) end }
 {
-    if 0 < top && top < count {
-        at + 4
-    } else {
-        end
-    }
+    if 0 < top && top < count { at + 4 } else { end }
 }
 
 // Fills both tables from their fronts; they have room for all records. The strings block begins at `base`.
@@ -63,7 +59,13 @@ pub fn fill(
                 put_record(
                     props,
                     owned,
-                    [top as u32, key as u32, len as u32, value as u32, size as u32],
+                    [
+                        top as u32,
+                        key as u32,
+                        len as u32,
+                        value as u32,
+                        size as u32,
+                    ],
                 );
                 owned += 1;
                 at = next;

@@ -18,11 +18,7 @@ use flat::BlobCounts;
 use laws::Refusal;
 
 // Reads a blob. The blob is the pool of the records: offsets count from its start.
-pub fn read_blob(
-    blob: &[u8],
-    nodes: &mut [u32],
-    props: &mut [u32],
-) -> Result<BlobCounts, Refusal>
+pub fn read_blob(blob: &[u8], nodes: &mut [u32], props: &mut [u32]) -> Result<BlobCounts, Refusal>
     ensures answer { blob_told result ≡ blob_answer blob.now (length nodes.old) (length props.old) }
     ensures nodes { nodes.new ≡ nodes_after blob.now nodes.old (length props.old) }
     ensures props { props.new ≡ props_after blob.now (length nodes.old) props.old }

@@ -1,6 +1,8 @@
 -- SPDX-License-Identifier: BSD-2-Clause OR GPL-2.0-or-later
 -- `read_blob` meets its contract: the header decides, and then its blocks, lent as slices. Assumes nothing.
-use mathlib.Core.Path.{◌≡◌, sym, ◌∙◌, subst}
+use mathlib.Core.Path.{◌≡◌, refl, sym, subst}
+use Rattle.std.proofs.lemmas.Result.{err_from_is_err_and}
+use Rattle.laws.proofs.ToldLaws.{rule_counts}
 use Prim.Native.Nat.{◌+◌, ◌≤◌}
 use native.Mathlib.Omega.{arith}
 use lib.ListN.{length}
@@ -14,10 +16,10 @@ use Rattle.blob.proofs.read_blob.Goals.{After-block_places-found}
 
 -- the header is sound, and its blocks
 header-sound : (c : After-block_places-found) → header_fault c.args.blob.now ≡ 0
-header-sound c = sym c.header_fault.ensures ∙ c.if-header_fault-ne0.false
+header-sound c = sym c.in_ok-header_fault.ensures
 
 blocks-sound : (c : After-block_places-found) → blocks_fault c.args.blob.now ≡ 0
-blocks-sound c = sym c.blocks_fault.ensures ∙ c.if-blocks_fault-ne0.false
+blocks-sound c = sym c.in_ok-blocks_fault.ensures
 
 -- where the slices that are lent end
 inside :
@@ -31,19 +33,24 @@ inside c =
     let within = lent_inside blob c.block_places-found.ensures ends in
     (ends.short, within.0, within.1)
 
-pub returns-then-header_fault-ne0 : goal.returns-then-header_fault-ne0
-returns-then-header_fault-ne0 c =
+pub returns-in_err-header_fault : goal.returns-in_err-header_fault
+returns-in_err-header_fault c =
     let a = c.args in
-    let met = header_met a.blob.now a.nodes.now a.props.now (λ z. c.if-header_fault-ne0.true (c.header_fault.ensures ∙ z)) in
-    rw c.refused.ensures (record { answer = met.0; nodes = met.1.0; props = met.1.1.0; reading = met.1.1.1 })
+    let p = err_from_is_err_and c.from_residual.result c.from_residual.ensures.1 in
+    let met = header_met a.blob.now a.nodes.now a.props.now c.in_err-header_fault.ensures (rule_counts c.in_err-header_fault.field-0.0) in
+    rw (p.1, p.2)
+    (record { answer = met.0; nodes = met.1.0; props = met.1.1.0; reading = met.1.1.1; place = omega arith; plain = refl })
 
-pub returns-then-blocks_fault-ne0 : goal.returns-then-blocks_fault-ne0
-returns-then-blocks_fault-ne0 c =
+pub returns-in_err-blocks_fault : goal.returns-in_err-blocks_fault
+returns-in_err-blocks_fault c =
     let a = c.args in
+    let exit = c.from_residual-in_err-blocks_fault in
+    let p = err_from_is_err_and exit.result exit.ensures.1 in
     let met =
-    blocks_met a.blob.now a.nodes.now a.props.now (sym c.header_fault.ensures ∙ c.if-header_fault-ne0.false)
-    (λ z. c.if-blocks_fault-ne0.true (c.blocks_fault.ensures ∙ z)) in
-    rw c.refused-then-blocks_fault-ne0.ensures (record { answer = met.0; nodes = met.1.0; props = met.1.1.0; reading = met.1.1.1 })
+    blocks_met a.blob.now a.nodes.now a.props.now (sym c.in_ok-header_fault.ensures) c.in_err-blocks_fault.ensures
+    (rule_counts c.in_err-blocks_fault.field-0.0) in
+    rw (p.1, p.2)
+    (record { answer = met.0; nodes = met.1.0; props = met.1.1.0; reading = met.1.1.1; place = omega arith; plain = refl })
 
 pub overflow_add-end : goal.overflow_add-end
 overflow_add-end c = let i = inside (goal.at.overflow_add-end c).After-block_places-found in omega (arith, i.0, i.1)
@@ -79,4 +86,4 @@ returns c =
     let met =
     read_met a.blob.now a.nodes.now a.props.now (header-sound places) (blocks-sound places) (lent_is a.blob.now c.block_places-found.ensures)
     (left.answer, (left.nodes, left.props)) in
-    record { answer = met.0; nodes = met.1.0; props = met.1.1.0; reading = met.1.1.1 }
+    record { answer = met.0; nodes = met.1.0; props = met.1.1.0; reading = met.1.1.1; place = left.place; plain = left.plain }

@@ -2,7 +2,6 @@
 use mathlib.Core.Path.{◌≡◌, ◌∙◌, ap}
 use Prim.Native.Nat.{◌-◌, ◌*◌}
 use native.Mathlib.Omega.{arith}
-use lib.ListN.{length-set}
 use Rattle.tokens.specs.answers.Read.{zero_from}
 use Rattle.tokens.proofs.ZeroLaws.{zero_inside}
 use Rattle.blob.proofs.EndLaws.{ends_more}
