@@ -1,5 +1,6 @@
 -- SPDX-License-Identifier: BSD-2-Clause OR GPL-2.0-or-later
 -- Laws that belong to no one function.
 pub mod EndLaws
+pub mod PutLaws
 pub mod FillingLaws
 pub mod ReadLaws

@@ -43,7 +43,7 @@ pub fn fill(
     while at < block.len() {
         match known_at(block, strings.len(), at) {
             TokenRead::Begin { len, next } => {
-                put_record(nodes, count, [top as u32, (at + 4) as u32, len as u32]);
+                put_record(nodes, count, [top, at + 4, len]);
                 top = count;
                 count += 1;
                 at = next;
@@ -54,19 +54,7 @@ pub fn fill(
             }
             TokenRead::Property { name, size, next } => {
                 let len = name_end(strings, &ends, name) - name;
-                let key = base + name;
-                let value = at + 12;
-                put_record(
-                    props,
-                    owned,
-                    [
-                        top as u32,
-                        key as u32,
-                        len as u32,
-                        value as u32,
-                        size as u32,
-                    ],
-                );
+                put_record(props, owned, [top, base + name, len, at + 12, size]);
                 owned += 1;
                 at = next;
             }

@@ -1,13 +1,16 @@
 // SPDX-License-Identifier: BSD-2-Clause OR GPL-2.0-or-later
 // Writing one record.
-ghost use Rattle.std.specs.Prelude.{◌≡◌, ◌++◌, ◌+◌, ◌*◌, ◌≤◌, length, take, drop};
+ghost use Rattle.std.specs.Prelude.{◌≡◌, ◌++◌, ◌+◌, ◌*◌, ◌^◌, ◌<◌, ◌≤◌, All, length, take, drop};
 
 // Writes record n of a table.
-pub fn put_record<const WORDS: usize>(table: &mut [u32], n: usize, words: [u32; WORDS])
-    requires { WORDS * n + WORDS ≤ length table.old }
+pub fn put_record<const WORDS: usize>(table: &mut [u32], n: usize, words: [usize; WORDS])
+    requires place { WORDS * n + WORDS ≤ length table.old }
+    requires words { All (λ word. word < 2 ^ 32) words }
     ensures { let old = table.old in
         table.new ≡ take (WORDS * n) old ++ words.entry ++ drop (WORDS * n + WORDS) old }
 {
     let start = WORDS * n;
-    table[start..start + WORDS].copy_from_slice(&words);
+    for (k, word) in words.iter().enumerate() {
+        table[start + k] = *word as u32;
+    }
 }

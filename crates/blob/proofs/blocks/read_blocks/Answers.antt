@@ -22,7 +22,8 @@ was_whole (Err p) e = absurd e
 left :
     (c : After-fill) →
     let a = c.args in
-    Left (blocks a.block.now a.start a.strings.now a.base) a.nodes.now a.props.now (blob_told (Ok c.in_ok-counts.counts)) c.fill.new.nodes c.fill.new.props
+    let b = blocks a.block.now a.start a.strings.now a.base in
+    Left b a.nodes.now a.props.now (blob_told (Ok c.in_ok-counts.counts)) c.fill.new.nodes c.fill.new.props
 left c =
     let a = c.args in
     let b = blocks a.block.now a.start a.strings.now a.base in

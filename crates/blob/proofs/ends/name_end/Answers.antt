@@ -32,13 +32,16 @@ pub slice_bounds-zero_from-end : goal.slice_bounds-zero_from-end
 slice_bounds-zero_from-end c = sym (length-take-le c.min-edge.result c.args.bytes.now (omega (arith, c.min-edge.ensures)))
 
 pub returns-then-stop-edge : goal.returns-then-stop-edge
-returns-then-stop-edge c = c.zero_from-stop.ensures ∙ (found (goal.at.returns-then-stop-edge c).After-zero_from-stop).0 (omega (arith, c.zero_from-stop.ensures))
+returns-then-stop-edge c =
+    c.zero_from-stop.ensures
+    ∙ (found (goal.at.returns-then-stop-edge c).After-zero_from-stop).0 (omega (arith, c.zero_from-stop.ensures))
 
 pub returns-then-edge-bytes : goal.returns-then-edge-bytes
 returns-then-edge-bytes c =
     let a = c.args in
     let edge = c.min-edge.result in
-    sym (zero_end a.bytes.now edge (omega arith)) ∙ (found (goal.at.returns-then-edge-bytes c).After-zero_from-stop).1 (omega (arith, c.zero_from-stop.ensures))
+    sym (zero_end a.bytes.now edge (omega arith))
+    ∙ (found (goal.at.returns-then-edge-bytes c).After-zero_from-stop).1 (omega (arith, c.zero_from-stop.ensures))
 
 pub returns : goal.returns
 returns c =

@@ -11,6 +11,7 @@ use Rattle.tokens.proofs.ZeroLaws.{zero_not_before, zero_inside}
 use Rattle.flat.specs.answers.Fill.{has_outer}
 use Rattle.blob.proofs.FillingLaws.{filling_start, begin_told, property_told, nodes_length, props_length, node_fits, prop_fits}
 use Rattle.blob.proofs.FillingLaws.{filling_begin, filling_prop, filling_nop, filling_end, filling_unsound, filling_close, filling_out}
+use Rattle.blob.proofs.PutLaws.{three_words, five_words}
 use Rattle.blob.proofs.fill.fill.Goals as goal
 
 pub note_ends-requires : goal.note_ends-requires
@@ -26,20 +27,18 @@ loop-at-init c =
 pub overflow_add-at : goal.overflow_add-at
 overflow_add-at c = omega (arith, c.loop-at-test.true, c.loop-at.invariant.small)
 
-pub overflow_cast-top : goal.overflow_cast-top
-overflow_cast-top c = omega (arith, c.loop-at.invariant.open_fits)
-
-pub overflow_cast-len : goal.overflow_cast-len
-overflow_cast-len c =
-    let a = c.args in
-    let is = sym c.known_at.ensures ∙ c.in-Begin.is in
-    let told = begin_told a.block.now (length a.strings.now) c.loop-at.at c.in-Begin.len c.in-Begin.next is in
-    omega (arith, told.0, c.loop-at.invariant.small)
-
 pub put_record-requires : goal.put_record-requires
 put_record-requires c =
+    let a = c.args in
+    let inv = c.loop-at.invariant in
     let is = sym c.known_at.ensures ∙ c.in-Begin.is in
-    (omega arith, node_fits c.loop-at.invariant c.loop-at-test.true c.in-Begin.len c.in-Begin.next is)
+    let told = begin_told a.block.now (length a.strings.now) c.loop-at.at c.in-Begin.len c.in-Begin.next is in (
+      omega arith,
+      (
+        node_fits inv c.loop-at-test.true c.in-Begin.len c.in-Begin.next is,
+        three_words inv.open_fits (omega (arith, c.loop-at-test.true, inv.small)) (omega (arith, told.0, inv.small)),
+      ),
+    )
 
 pub overflow_add-count : goal.overflow_add-count
 overflow_add-count c = omega (arith, c.loop-at-test.true, c.loop-at.invariant.small, c.loop-at.invariant.few_nodes)
@@ -78,43 +77,34 @@ name_end-requires c =
 pub overflow_sub-len : goal.overflow_sub-len
 overflow_sub-len c = omega (arith, c.name_end.ensures, zero_not_before c.args.strings.now c.in-Property.name)
 
-pub overflow_add-key : goal.overflow_add-key
-overflow_add-key c =
+pub overflow_add-base : goal.overflow_add-base
+overflow_add-base c =
     let a = c.args in
     let p = c.in-Property in
     let told = property_told a.block.now (length a.strings.now) c.loop-at.at p.name p.size p.next (sym c.known_at.ensures ∙ p.is) in
     omega (arith, told.0, c.requires.sizes.1)
 
-pub overflow_cast-top-in-Property : goal.overflow_cast-top-in-Property
-overflow_cast-top-in-Property c = omega (arith, c.loop-at.invariant.open_fits)
-
-pub overflow_cast-key : goal.overflow_cast-key
-overflow_cast-key c =
-    let a = c.args in
-    let p = c.in-Property in
-    let told = property_told a.block.now (length a.strings.now) c.loop-at.at p.name p.size p.next (sym c.known_at.ensures ∙ p.is) in
-    omega (arith, told.0, c.requires.sizes.1)
-
-pub overflow_cast-len-in-Property : goal.overflow_cast-len-in-Property
-overflow_cast-len-in-Property c =
-    let a = c.args in
-    let p = c.in-Property in
-    let told = property_told a.block.now (length a.strings.now) c.loop-at.at p.name p.size p.next (sym c.known_at.ensures ∙ p.is) in
-    let name_in = told.0 in
-    let stop = zero_inside a.strings.now p.name (omega arith) in
-    omega (arith, c.requires.sizes.1, stop, c.name_end.ensures)
-
-pub overflow_cast-size : goal.overflow_cast-size
-overflow_cast-size c =
-    let a = c.args in
-    let p = c.in-Property in
-    let told = property_told a.block.now (length a.strings.now) c.loop-at.at p.name p.size p.next (sym c.known_at.ensures ∙ p.is) in
-    omega (arith, told.1, cell_lt a.block.now (c.loop-at.at + 4) (λ k. omega (arith, c.type_inv.block k)))
+pub overflow_add-at-in-Property : goal.overflow_add-at-in-Property
+overflow_add-at-in-Property c = omega (arith, c.loop-at-test.true, c.loop-at.invariant.small)
 
 pub put_record-requires-in-Property : goal.put_record-requires-in-Property
 put_record-requires-in-Property c =
+    let a = c.args in
     let p = c.in-Property in
-    (omega arith, prop_fits c.loop-at.invariant c.loop-at-test.true p.name p.size p.next (sym c.known_at.ensures ∙ p.is))
+    let inv = c.loop-at.invariant in
+    let is = sym c.known_at.ensures ∙ p.is in
+    let told = property_told a.block.now (length a.strings.now) c.loop-at.at p.name p.size p.next is in
+    let name_in = told.0 in
+    let strings_in = c.requires.sizes.1 in
+    let stop = zero_inside a.strings.now p.name (omega arith) in (
+      omega arith,
+      (
+        prop_fits inv c.loop-at-test.true p.name p.size p.next is,
+        five_words inv.open_fits (omega (arith, name_in, strings_in)) (omega (arith, strings_in, stop, c.name_end.ensures))
+            (omega (arith, c.loop-at-test.true, inv.small))
+            (omega (arith, told.1, cell_lt a.block.now (c.loop-at.at + 4) (λ k. omega (arith, c.type_inv.block k)))),
+      ),
+    )
 
 pub overflow_add-owned : goal.overflow_add-owned
 overflow_add-owned c = omega (arith, c.loop-at-test.true, c.loop-at.invariant.small, c.loop-at.invariant.few_props)
