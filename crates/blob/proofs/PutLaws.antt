@@ -14,7 +14,9 @@ use Rattle.std.proofs.lemmas.List.Elements.{All-cons}
 abbrev pub Put : List ℕ → List ℕ → ℕ → ℕ → List ℕ → Type 0
 Put old words s k table = table ≡ take s old ++ take k words ++ drop (s + k) old
 
-module _ (old words : List ℕ) (s k : ℕ) {table : List ℕ} (fits : s + length words ≤ length old) (is : Put old words s k table) (lt : k < length words) where
+module _
+    (old words : List ℕ) (s k : ℕ) {table : List ℕ} (fits : s + length words ≤ length old) (is : Put old words s k table)
+    (lt : k < length words) where
   -- the next word
   pub put_more : Put old words s (k + 1) (set table (s + k) (get_or words k 0))
   put_more =

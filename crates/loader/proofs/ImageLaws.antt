@@ -12,7 +12,7 @@ use Rattle.laws.specs.facts.First.{stage_in}
 use Rattle.laws.specs.answers.Fault.{plain}
 use Rattle.laws.proofs.FirstLaws.{first_unique}
 use Rattle.laws.specs.answers.Listed.{laid_over}
-use Rattle.laws.proofs.FrontLaws.{front_fits, front_is}
+use Rattle.laws.proofs.FrontLaws.{front_is}
 use Rattle.wire.specs.facts.Bytes.{word_size, words_in}
 use Rattle.tables.specs.facts.Board.{board}
 use Rattle.header.specs.facts.Header.{blocks_of}
@@ -138,9 +138,6 @@ module _
 
     prop_count : 5 * found.props ≡ length records.props
     prop_count = ap (λ (a : BlobAnswer). 5 * a.props) is ∙ (counted blob nodes props blob_clear).1
-
-    pub nodes_fit : 3 * found.nodes ≤ length nodes'
-    nodes_fit = front_fits records.nodes nodes nodes_laid node_count fits.0
 
     board_in_lem : board width node_front prop_front blob ≡ board_in width blob
     board_in_lem =

@@ -36,7 +36,8 @@ module _ (b : Board) (room most : ℕ) (enough : row_size * max_cpus ≤ most) w
       go :
           (t : Bool) →
           eqb (survey_fault b).number 0 ≡ t →
-          or_else (survey_fault b) (told (room_fault (min room most) (cpu_count b)) 0) ≡ or_else (survey_fault b) (told (room_fault room (cpu_count b)) 0)
+          or_else (survey_fault b) (told (room_fault (min room most) (cpu_count b)) 0)
+          ≡ or_else (survey_fault b) (told (room_fault room (cpu_count b)) 0)
       go true e = ap (λ (n : ℕ). or_else (survey_fault b) (told n 0)) (same_room (survey_few b (eqb-true (survey_fault b).number 0 e)).0)
       go false e =
           let ne = eqb-false (survey_fault b).number 0 e in

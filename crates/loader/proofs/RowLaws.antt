@@ -3,13 +3,13 @@
 use mathlib.Core.Path.{◌≡◌, refl, sym, ap, ◌∙◌}
 use mathlib.Core.Logic.{⊎_elim}
 use mathlib.Core.Bool.{Bool, true, false}
-use mathlib.Core.List.{List, [], ◌++◌}
+use mathlib.Core.List.{List, ◌++◌}
 use Prim.Native.Nat.{ℕ, ◌*◌, ◌/◌, ◌^◌, ◌≤◌, ◌<◌, min}
 use native.Mathlib.Omega.{arith}
 use lib.Dec.{eqb, lit<}
 use lib.ListN.{length, get_or, take, drop, length-append, length-drop, length-take, get_or-eq_default}
 use lib.Seq.{drop_at, get_or-take}
-use borrow.Author.Tests.{eq-eqb, ne_eqb, eqb-true, eqb-false, lt-ltb, le-ltb}
+use borrow.Author.Tests.{eq-eqb, ne_eqb, lt-ltb, le-ltb}
 use Rattle.laws.specs.facts.Limits.{max_cpus}
 use Rattle.laws.specs.facts.Told.{Fault}
 use Rattle.laws.proofs.SearchLaws.{lt_or_le}
@@ -75,7 +75,8 @@ module _ (b : Board) (bytes : List ℕ) where
   front = in_bytes word_size (rows_after b (words_in bytes))
 
   front_size : length front ≡ word_size * room
-  front_size = in_length word_size (rows_after b (words_in bytes)) ∙ ap (λ (n : ℕ). word_size * n) (after_size b (words_in bytes) ∙ words_length bytes)
+  front_size =
+      in_length word_size (rows_after b (words_in bytes)) ∙ ap (λ (n : ℕ). word_size * n) (after_size b (words_in bytes) ∙ words_length bytes)
 
   -- the bytes behind the last whole word, and how many there are in all
   pub bytes_rest : drop (word_size * room) (row_bytes b bytes) ≡ drop (word_size * room) bytes
@@ -111,10 +112,6 @@ module _ (b : Board) (bytes : List ℕ) (small : Bytes bytes) where
 
     bytes_same : row_bytes b bytes ≡ bytes
     bytes_same = rw after_same (words_back bytes small)
-
-    nothing : with_words [] bytes ≡ bytes
-    unfolding in_bytes
-    nothing = with_words_lem [] bytes (omega arith)
 
   pub bytes_kept : ((answer_of b (room b bytes)).number ≡ 0 → ⊥) → row_bytes b bytes ≡ bytes
   unfolding answer_of
@@ -181,36 +178,50 @@ module _ {b : Board} (sized : WordSized b) (bytes : List ℕ) (small : Bytes byt
         let as_words = e ∙ ap (answer_of b) (sym (words_length bytes)) in
         (e, (wrote, rw (as_words, wrote, read) (demands sized held)))
 
+    -- an acceptance
     pub read_bytes :
         {r : BoardAnswer} {made rows : List ℕ} →
+        r.number ≡ 0 →
         (r ≡ answer_of b most) × (made ≡ rows_by (board_fault b most) (source_of b) table) →
         Words made →
         rows ≡ with_words (take (row_size * r.count) made) bytes →
         (r ≡ answer_of b (room b bytes)) × ((rows ≡ row_bytes b bytes) × Demands b held r (words_in rows))
     unfolding answer_of
-    read_bytes {r} {made} {rows} promised made_small wrote = go (eqb (told b bytes small).number 0) refl
+    read_bytes {r} {made} {rows} accepted promised made_small wrote =
+        owed is (rw (written_is, count_is) at wrote ∙ bytes_written z table enough table_small) (words_written z table enough table_small)
       where
         is : r ≡ answer_of b (room b bytes)
         is = promised.0 ∙ same_answer b (room b bytes) (length table) enough
 
-        left : made ≡ rows_by (told b bytes small) (source_of b) table
-        left = promised.1 ∙ ap (λ (f : Fault). rows_by f (source_of b) table) (same_fault b (room b bytes) (length table) enough)
+        z : (told b bytes small).number ≡ 0
+        z = sym (ap (λ (a : BoardAnswer). a.number) is ∙ by_number (told b bytes small) (cpu_count b) (board_hash b)) ∙ accepted
 
-        count_is : {n : ℕ} → (answer_of b (room b bytes)).count ≡ n → rows ≡ with_words (take (row_size * n) made) bytes
-        count_is e = wrote ∙ ap (λ (n : ℕ). with_words (take (row_size * n) made) bytes) (ap (λ (a : BoardAnswer). a.count) is ∙ e)
+        clear : eqb (told b bytes small).number 0 ≡ true
+        clear = eq-eqb (told b bytes small).number 0 z
 
-        go :
-            (t : Bool) →
-            eqb (told b bytes small).number 0 ≡ t →
-            (r ≡ answer_of b (room b bytes)) × ((rows ≡ row_bytes b bytes) × Demands b held r (words_in rows))
-        go true e =
-            let z = eqb-true (told b bytes small).number 0 e in
-            let written_is : made ≡ written (source_of b) table = rw e at left in
-            let table_small = rw written_is at made_small in
-            let counted = count_is {n = cpu_count b} (rw e) in
-            owed is (rw written_is at counted ∙ bytes_written z table enough table_small) (words_written z table enough table_small)
-        go false e =
-            let ne = eqb-false (told b bytes small).number 0 e in
-            let counted = count_is {n = 0} (rw e) in
-            let same = bytes_same b bytes small ne in
-            owed is (counted ∙ nothing b bytes small ne ∙ sym same) (ap (λ (l : List ℕ). words_in l) same ∙ sym (after_same b bytes small ne))
+        written_is : made ≡ written (source_of b) table
+        written_is = promised.1 ∙ ap (λ (f : Fault). rows_by f (source_of b) table) (same_fault b (room b bytes) (length table) enough) ∙ rw clear
+
+        count_is : r.count ≡ cpu_count b
+        count_is = ap (λ (a : BoardAnswer). a.count) is ∙ rw clear
+
+        table_small : Words (written (source_of b) table)
+        table_small = rw written_is at made_small
+
+    -- a refusal
+    pub kept_bytes :
+        {r : BoardAnswer} →
+        (r.number ≡ 0 → ⊥) →
+        r ≡ answer_of b most →
+        (r ≡ answer_of b (room b bytes)) × ((bytes ≡ row_bytes b bytes) × Demands b held r (words_in bytes))
+    unfolding answer_of
+    kept_bytes {r} refused promised = owed is (sym same) (ap (λ (l : List ℕ). words_in l) same ∙ sym (after_same b bytes small ne))
+      where
+        is : r ≡ answer_of b (room b bytes)
+        is = promised ∙ same_answer b (room b bytes) (length table) enough
+
+        ne : (told b bytes small).number ≡ 0 → ⊥
+        ne z = refused (ap (λ (a : BoardAnswer). a.number) is ∙ by_number (told b bytes small) (cpu_count b) (board_hash b) ∙ z)
+
+        same : row_bytes b bytes ≡ bytes
+        same = bytes_same b bytes small ne

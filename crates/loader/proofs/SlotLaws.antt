@@ -26,7 +26,7 @@ module _ (bytes : List ℕ) (mpidr : ℕ) where
   abbrev list : List ℕ
   list = numbers_in bytes
 
-  abbrev Owed : ListSlot → Type 0
+  abbrev pub Owed : ListSlot → Type 0
   Owed r = (r ≡ byte_slot mpidr bytes) × ByteSlotDemands bytes mpidr r
 
   -- no rule has a smaller number than 28

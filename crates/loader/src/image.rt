@@ -32,20 +32,20 @@ fn read_board(
     words: usize,
     blob: &[u8],
     rows: &mut [u8],
-) -> BoardAnswer
+) -> Result<BoardRows, Refusal>
     requires { row_size * max_cpus ≤ length table.old }
     ensures answer { let b = board width nodes.now (take words table.old) blob.now in
-        result ≡ answer_of b (length rows.old / word_size) }
+        board_told result ≡ answer_of b (length rows.old / word_size) }
     ensures rows { let b = board width nodes.now (take words table.old) blob.now in
         rows.new ≡ row_bytes b rows.old }
     ensures demands { let b = board width nodes.now (take words table.old) blob.now in
-        Demands b (words_in rows.old) result (words_in rows.new) }
+        Demands b (words_in rows.old) (board_told result) (words_in rows.new) }
 {
     let room = rows.len() / WORD_BYTES;
-    let answer = board::read_in_place(width, nodes, table, words, blob, room);
-    let written = ROW_WORDS * answer.count;
+    let made = board::read_in_place(width, nodes, table, words, blob, room)?;
+    let written = ROW_WORDS * made.count;
     wire::put_words(rows, &table[..written]);
-    answer
+    Ok(made)
 }
 
 // Reads a blob into rows of bytes.
@@ -57,15 +57,7 @@ pub fn read_image(width: u32, blob: &[u8], rows: &mut [u8]) -> Result<BoardRows,
 {
     let mut nodes = [0u32; NODE_ROOM];
     let mut table = [0u32; PROPERTY_ROOM];
-    let found = blob::read_blob(blob, &mut nodes, &mut table);
-    if found.number != 0 {
-        let place = found.place as usize;
-        return refused(Fault {
-            number: found.number,
-            place,
-            second: NO_PROPERTY,
-        });
-    }
+    let found = blob::read_blob(blob, &mut nodes, &mut table)?;
     let node_words = 3 * found.nodes as usize;
     let words = 5 * found.props as usize;
     read_board(width, &nodes[..node_words], &mut table, words, blob, rows)

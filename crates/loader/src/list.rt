@@ -1,6 +1,6 @@
 // SPDX-License-Identifier: BSD-2-Clause OR GPL-2.0-or-later
 // A list of MPIDRs in bytes.
-ghost use Rattle.std.specs.Prelude.{◌≡◌, ◌/◌, ◌≤◌, None, IfErr, length};
+ghost use Rattle.std.specs.Prelude.{◌≡◌, ◌/◌, ◌≤◌, None, IfErr, OnOk, length};
 ghost use Rattle.laws.specs.answers.Told.{told_in};
 ghost use Rattle.affinity.specs.answers.Told.{slot_told};
 ghost use Rattle.laws.specs.answers.Listed.{laid_over};
@@ -16,26 +16,20 @@ use wire::{NUMBER_BYTES, number_at};
 
 // Reads the MPIDRs of a list, as far as the first one with a bit that is no affinity bit. That test keeps the loop from being a mere copy, which
 // the compiler would turn into a call of memcpy.
-fn read_mpidrs(list: &[u8], mpidrs: &mut [u64]) -> Fault
+fn read_mpidrs(list: &[u8], mpidrs: &mut [u64]) -> Result<(), Refusal>
     requires { length list.now / number_size ≤ length mpidrs.old }
-    ensures fault { result ≡ first_outside (numbers_in list.now) }
-    ensures mpidrs { result.number ≡ 0 → mpidrs.new ≡ laid_over (numbers_in list.now) mpidrs.old }
+    ensures fault { told_in result ≡ first_outside (numbers_in list.now) }
+    ensures mpidrs { OnOk result (mpidrs.new ≡ laid_over (numbers_in list.now) mpidrs.old) }
+    ensures plain { IfErr result (λ refusal. refusal.property ≡ None) }
 {
-    let count = list.len() / NUMBER_BYTES;
-    let mut k: usize = 0;
-    while k < count {
+    for k in 0..list.len() / NUMBER_BYTES {
         let mpidr = number_at(list, NUMBER_BYTES * k);
         if !is_affine(mpidr) {
-            return Fault {
-                number: rules::LIST_MPIDR,
-                place: k,
-                second: NO_PROPERTY,
-            };
+            return Err(Rule::ListMpidr.at(k));
         }
         mpidrs[k] = mpidr;
-        k += 1;
     }
-    CLEAR
+    Ok(())
 }
 
 // The slot of one MPIDR in a list of MPIDRs, eight bytes each.
@@ -44,21 +38,11 @@ pub fn byte_slot(mpidr: u64, list: &[u8]) -> Result<u32, Refusal>
     ensures demands { ByteSlotDemands list.now mpidr (slot_told result) }
     ensures plain { IfErr result (λ refusal. refusal.property ≡ None) }
 {
-    if list.len() % NUMBER_BYTES != 0 {
-        return NO_LIST;
-    }
     let count = list.len() / NUMBER_BYTES;
-    if MAX_CPUS < count {
-        return NO_LIST;
+    if list.len() % NUMBER_BYTES != 0 || MAX_CPUS < count {
+        return Err(Rule::ListLength.at(0));
     }
     let mut mpidrs = [0u64; MAX_CPUS];
-    let fault = read_mpidrs(list, &mut mpidrs);
-    if fault.number != 0 {
-        return ListSlot {
-            number: fault.number,
-            place: fault.place,
-            slot: 0,
-        };
-    }
+    read_mpidrs(list, &mut mpidrs)?;
     affinity::list_slot(mpidr, &mpidrs[..count])
 }

@@ -4,7 +4,7 @@ use mathlib.Core.Path.{◌≡◌, refl, sym, ap, ◌∙◌}
 use mathlib.Core.List.{List}
 use Prim.Native.Nat.{ℕ, ◌*◌, ◌/◌, ◌<◌}
 use native.Mathlib.Omega.{arith}
-use lib.ListN.{length, get_or, take, drop, length-set}
+use lib.ListN.{length, get_or, take, drop}
 use Rattle.laws.specs.answers.Fault.{first_fault}
 use Rattle.laws.specs.answers.Listed.{laid_over}
 use Rattle.laws.proofs.FaultLaws.{clear_more, at_fault, at_end}
@@ -36,29 +36,24 @@ module _ (c : After-number_at-mpidr) where
 
 pub loop-k-init : goal.loop-k-init
 unfolding held first_fault
-loop-k-init c = (omega arith, refl, sym (over_none c.args.mpidrs.now), refl)
+loop-k-init c = (sym (over_none c.args.mpidrs.now), refl)
 
-pub returns-then-not-is_affine : goal.returns-then-not-is_affine
+pub returns-then-not-is_affine-clause-fault : goal.returns-then-not-is_affine-clause-fault
 unfolding first_outside
-returns-then-not-is_affine c =
-    let p = (goal.at.returns-then-not-is_affine c).After-number_at-mpidr in
+returns-then-not-is_affine-clause-fault c =
+    let p = (goal.at.returns-then-not-is_affine-clause-fault c).After-number_at-mpidr in
     let l = c.args.list.now in
-    record {
-      fault =
-          at_fault (outside l) c.loop-k.k (length (numbers_in l)) (omega (arith, more p, numbers_length l)) c.loop-k.invariant.3
-          (rw (← is_number p, ← c.is_affine.ensures, c.if-not-is_affine.true)) (λ z. omega arith);
-      mpidrs = λ z. absurd (omega arith);
-    }
+    let bit : 29 ≡ outside l c.loop-k.k = rw (← is_number p, ← c.is_affine.ensures, c.if-not-is_affine.true) in
+    rw c.at.ensures
+    (at_fault (outside l) c.loop-k.k (length (numbers_in l)) (omega (arith, more p, numbers_length l)) c.loop-k.invariant.1 bit (λ z. omega arith))
 
 pub loop-k-preserved : goal.loop-k-preserved
 loop-k-preserved c =
     let p = (goal.at.loop-k-preserved c).After-number_at-mpidr in
     let l = c.args.list.now in
     let inv = c.loop-k.invariant in (
-      omega (arith, more p),
-      length-set c.loop-k.mpidrs _ _ ∙ inv.1,
-      read_more number_size c.loop-k.k l c.args.mpidrs.now (omega (arith, more p, c.requires)) (read p) inv.2,
-      clear_more (outside l) c.loop-k.k inv.3 refl (rw (← is_number p, ← c.is_affine.ensures, c.if-not-is_affine.false)),
+      read_more number_size c.loop-k.k l c.args.mpidrs.now (omega (arith, more p, c.requires)) (read p) inv.0,
+      clear_more (outside l) c.loop-k.k inv.1 refl (rw (← is_number p, ← c.is_affine.ensures, c.if-not-is_affine.false)),
     )
 
 pub returns : goal.returns
@@ -67,8 +62,9 @@ returns c =
     let a = c.args in
     let l = a.list.now in
     let inv = c.loop-k.invariant in
-    let all : c.loop-k.k ≡ length l / number_size = omega (arith, inv.0, c.loop-k-test.false) in
+    let all : c.loop-k.k ≡ length l / number_size = omega (arith, c.loop-k.auto.k-end, c.loop-k-test.false) in
     record {
-      fault = at_end (outside l) c.loop-k.k (length (numbers_in l)) (all ∙ sym (numbers_length l)) inv.3;
-      mpidrs = λ _. inv.2 ∙ ap (λ (n : ℕ). laid_over (held number_size n l) a.mpidrs.now) all;
+      fault = at_end (outside l) c.loop-k.k (length (numbers_in l)) (all ∙ sym (numbers_length l)) inv.1;
+      mpidrs = inv.0 ∙ ap (λ (n : ℕ). laid_over (held number_size n l) a.mpidrs.now) all;
+      plain = tt;
     }
