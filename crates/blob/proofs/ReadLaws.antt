@@ -66,11 +66,6 @@ module _ (b : Blocks) (nodes props : List ℕ) {answer : BlobAnswer} (is : answe
   abbrev found : BlobAnswer
   found = walk_answer (length nodes) (length props) (walk_in b)
 
-  pub refused_left : (answer.number ≡ 0 → ⊥) → Left b nodes props answer nodes props
-  refused_left ne =
-      let e = ne_eqb found.number 0 (subst (λ (a : BlobAnswer). a.number ≡ 0 → ⊥) is ne) in
-      (is, (rw e, rw e))
-
   pub filled_left :
       {nodes' props' : List ℕ} →
       Roomy b (length nodes) (length props) →
