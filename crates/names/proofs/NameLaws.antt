@@ -1,48 +1,55 @@
 -- SPDX-License-Identifier: BSD-2-Clause OR GPL-2.0-or-later
 -- A word at a name's start and a number's digits, one byte at a time. Assumes nothing.
 use Rattle.std.specs.Prelude.{Option, None, Some}
-use mathlib.Core.Path.{◌≡◌, refl}
-use mathlib.Core.Bool.{Bool, true, false, cond}
-use mathlib.Core.List.{List}
+use mathlib.Core.Path.{◌≡◌, refl, ◌∙◌}
+use mathlib.Core.Logic.{inl, inr}
+use mathlib.Core.Bool.{Bool, true, false, cond, ◌&&◌}
+use mathlib.Core.List.{List, [], ◌∷◌}
 use Prim.Native.Nat.{ℕ, ◌+◌, ◌-◌, ◌*◌, ◌^◌, ◌≤◌, ◌<◌}
 use native.Mathlib.Nat.{pow-suc, pow-le-pow_right, zero-lt-suc}
 use native.Mathlib.Numerals.{add-one}
+use native.Mathlib.Omega.{arith}
 use lib.Dec.{eqb, ltb}
-use lib.ListN.{length, drop, get_or, drop_of_length-le}
+use borrow.Author.Tests.{lt-ltb, le-ltb}
+use Rattle.std.specs.Char.{IsAsciiDigit, IsNotAsciiDigit}
+use lib.Pointwise.{pointwise}
+use lib.ListN.{length, take, drop, get_or}
 use lib.Seq.{drop-cons, drop-length}
-use Rattle.names.specs.answers.Name.{starts_with, digits_from, number_of}
-use Rattle.names.specs.steps.Name.{number_after}
+use Rattle.names.specs.answers.Name.{starts_with, digits_from}
 
--- a name no longer than the word has no number after it
-pub after_short : (word name : List ℕ) → length name ≤ length word → None ≡ number_after word name
-unfolding number_after number_of
-after_short word name h = rw (drop_of_length-le name h) (same (starts_with word name))
+-- the test of a name's head is that of its start
+pub head_starts : (word name : List ℕ) → pointwise eqb (take (length word) name) word ≡ starts_with word name
+unfolding starts_with
+head_starts [] name = refl
+head_starts (w ∷ ws) [] = refl
+head_starts (w ∷ ws) (b ∷ bs) = go (eqb b w) (head_starts ws bs)
   where
-    same : (b : Bool) → ◌≡◌ {A = Option ℕ} None (cond b None None)
-    same true = refl
-    same false = refl
+    go : (t : Bool) → pointwise eqb (take (length ws) bs) ws ≡ starts_with ws bs → (t && pointwise eqb (take (length ws) bs) ws) ≡ cond t (starts_with ws bs) false
+    go true ih = ih
+    go false ih = refl
 
--- one byte more
-pub starts_step :
-    (word name : List ℕ) (i : ℕ) →
-    i < length word →
-    i < length name →
-    starts_with (drop i word) (drop i name) ≡ cond (eqb (get_or name i 0) (get_or word i 0)) (starts_with (drop (i + 1) word) (drop (i + 1) name)) false
-unfolding starts_with
-starts_step word name i h g = rw (add-one, drop-cons word i 0 h, drop-cons name i 0 g)
-
-pub starts_end : (word name : List ℕ) (i : ℕ) → i ≡ length word → starts_with (drop i word) (drop i name) ≡ true
-unfolding starts_with
-starts_end word name i e = rw (e, drop-length word)
-
--- one digit more
-pub digits_step :
+-- one digit more, and a byte that is none
+digits_step :
     (ds : List ℕ) (v i : ℕ) →
     i < length ds →
     digits_from v (drop i ds)
     ≡ cond (ltb (get_or ds i 0) 48) None (cond (ltb 57 (get_or ds i 0)) None (digits_from (v * 10 + (get_or ds i 0 - 48)) (drop (i + 1) ds)))
 unfolding digits_from
 digits_step ds v i h = rw (add-one, drop-cons ds i 0 h)
+
+pub digits_more :
+    (ds : List ℕ) (v i : ℕ) →
+    i < length ds →
+    IsAsciiDigit (get_or ds i 0) →
+    digits_from v (drop i ds) ≡ digits_from (v * 10 + (get_or ds i 0 - 48)) (drop (i + 1) ds)
+digits_more ds v i h d = digits_step ds v i h ∙ rw (le-ltb _ _ d.0, le-ltb _ _ d.1)
+
+pub digits_stop : (ds : List ℕ) (v i : ℕ) → i < length ds → IsNotAsciiDigit (get_or ds i 0) → digits_from v (drop i ds) ≡ None
+digits_stop ds v i h d = rw (digits_step ds v i h) (stops (get_or ds i 0) _ d)
+  where
+    stops : (b : ℕ) (rest : Option ℕ) → IsNotAsciiDigit b → cond (ltb b 48) None (cond (ltb 57 b) None rest) ≡ None
+    stops b rest (inl low) = rw (lt-ltb b 48 low)
+    stops b rest (inr high) = rw (le-ltb b 48 (omega arith), lt-ltb 57 b high)
 
 pub digits_end : (ds : List ℕ) (v i : ℕ) → i ≡ length ds → digits_from v (drop i ds) ≡ Some v
 unfolding digits_from

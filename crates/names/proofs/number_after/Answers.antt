@@ -1,23 +1,21 @@
 -- SPDX-License-Identifier: BSD-2-Clause OR GPL-2.0-or-later
--- `number_after` meets its contract. Assumes nothing.
+-- `number_after` meets its contract: what follows the word is read as a number. Assumes nothing.
 use mathlib.Core.Path.{sym, ap, ◌∙◌}
-use lib.ListN.{length}
-use Rattle.laws.proofs.PartLaws.{part_is}
 use Rattle.names.specs.answers.Name.{number_of}
 use Rattle.names.specs.steps.Name.{number_after}
-use Rattle.names.proofs.NameLaws.{after_short}
+use Rattle.names.proofs.NameLaws.{head_starts}
 use Rattle.names.proofs.number_after.Goals as goal
 
-pub returns-then-name-word : goal.returns-then-name-word
-returns-then-name-word c = after_short _ _ c.if-name-word.true
-
-pub returns-then-starts_with : goal.returns-then-starts_with
+pub returns-in_err-strip_prefix : goal.returns-in_err-strip_prefix
 unfolding number_after
-returns-then-starts_with c =
+returns-in_err-strip_prefix c =
     let a = c.args in
-    rw (sym c.starts_with.ensures ∙ c.if-starts_with.true)
-    (c.number_of.ensures ∙ ap number_of (part_is (length a.word.now) a.name.now))
+    rw (c.from_residual.ensures, sym (head_starts a.word.now a.name.now) ∙ c.in_err-strip_prefix.ensures.cases)
 
 pub returns : goal.returns
 unfolding number_after
-returns c = rw (sym c.starts_with.ensures ∙ c.if-starts_with.false)
+returns c =
+    let a = c.args in
+    let there = c.in_ok-strip_prefix.ensures.cases in
+    rw (sym (head_starts a.word.now a.name.now) ∙ there.0)
+    (c.number_of.ensures ∙ ap number_of there.1)
