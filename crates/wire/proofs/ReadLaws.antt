@@ -1,13 +1,17 @@
 -- SPDX-License-Identifier: BSD-2-Clause OR GPL-2.0-or-later
--- Four bytes of a number, and one number more read behind others. Assumes nothing.
+-- Eight bytes of a number, and one number more read behind others. Assumes nothing.
 use mathlib.Core.Path.{◌≡◌, refl, sym, ap, ap₂, ◌∙◌}
 use mathlib.Core.List.{List, [], ◌∷◌, ◌++◌}
 use Prim.Native.Nat.{ℕ, zero, suc, ◌+◌, ◌*◌, ◌≤◌, ◌<◌}
 use native.Mathlib.Nat.{mul-zero, mul-suc, add_comm}
 use native.Mathlib.Numerals.{add-one}
 use native.Mathlib.Omega.{arith}
-use lib.ListN.{length, get_or, take, drop, set}
-use lib.Seq.{take-nil, drop-drop, get_or-drop}
+use lib.ListN.{length, get_or, take, drop, set, length-drop, drop_of_length-le}
+use lib.Seq.{drop-drop, length-take-le}
+use Rattle.std.specs.Array.{IsFirstChunk}
+use Rattle.std.specs.Int.{w64, from_le_bytes}
+use Rattle.std.specs.List.{slice_range}
+use Rattle.std.proofs.lemmas.Slice.{between_to_end}
 use borrow.Author.Tests.{lt-ltb, le-ltb}
 use Rattle.laws.specs.answers.Listed.{laid_over}
 use Rattle.laws.proofs.OverLaws.{over_push}
@@ -15,54 +19,56 @@ use Rattle.wire.specs.facts.Bytes.{number_of, held, number_size}
 use Rattle.wire.specs.answers.Read.{number_at}
 use Rattle.wire.proofs.ByteLaws.{held_length}
 
--- the first byte, and the rest
-number_first : (k : ℕ) (bytes : List ℕ) → number_of (take (suc k) bytes) ≡ get_or bytes 0 0 + 256 * number_of (take k (drop 1 bytes))
+-- the byte at a place, and the rest
+number_step : (n : ℕ) (bytes : List ℕ) → number_of (drop n bytes) ≡ get_or bytes n 0 + 256 * number_of (drop (suc n) bytes)
 unfolding number_of
-number_first k [] = rw (take-nil {A = ℕ} k)
-number_first k (b ∷ bs) = refl
+number_step zero [] = refl
+number_step zero (b ∷ bs) = refl
+number_step (suc n) [] = refl
+number_step (suc n) (b ∷ bs) = number_step n bs
 
--- .. of bytes from a place on
-number_step :
-    (k at next : ℕ) (bytes : List ℕ) →
-    at + 1 ≡ next →
-    number_of (take (suc k) (drop at bytes)) ≡ get_or bytes at 0 + 256 * number_of (take k (drop next bytes))
-number_step k at next bytes e =
-    let here : at + 0 ≡ at = omega arith in
-    number_first k (drop at bytes) ∙ rw (get_or-drop at bytes 0 0, here, drop-drop 1 at bytes, e)
-
--- four bytes, and the rest
-number_four :
-    (k at : ℕ) (bytes : List ℕ) →
-    number_of (take (suc (suc (suc (suc k)))) (drop at bytes))
-    ≡ get_or bytes at 0
-    + 256 * get_or bytes (at + 1) 0
-    + 65536 * get_or bytes (at + 2) 0
-    + 16777216 * get_or bytes (at + 3) 0
-    + 4294967296 * number_of (take k (drop (at + 4) bytes))
-number_four k at bytes =
+-- eight bytes, joined
+number_eight : (bytes : List ℕ) → length bytes ≡ number_size → from_le_bytes w64 bytes ≡ number_of bytes
+unfolding number_of
+number_eight bytes eight =
+    let few : length bytes ≤ 8 = omega arith in
+    let none = ap number_of (drop_of_length-le bytes few) in
     omega (
       arith,
-      number_step (suc (suc (suc k))) at (at + 1) bytes refl,
-      number_step (suc (suc k)) (at + 1) (at + 2) bytes (omega arith),
-      number_step (suc k) (at + 2) (at + 3) bytes (omega arith),
-      number_step k (at + 3) (at + 4) bytes (omega arith),
+      number_step 0 bytes,
+      number_step 1 bytes,
+      number_step 2 bytes,
+      number_step 3 bytes,
+      number_step 4 bytes,
+      number_step 5 bytes,
+      number_step 6 bytes,
+      number_step 7 bytes,
+      none,
     )
 
--- eight bytes, joined four and four
-abbrev joined_at : List ℕ → ℕ → ℕ → ℕ → ℕ → ℕ
-joined_at bytes a b c d = get_or bytes a 0 + 256 * get_or bytes b 0 + 65536 * get_or bytes c 0 + 16777216 * get_or bytes d 0
+-- a number that has its bytes
+pub number_there : (bytes : List ℕ) (at : ℕ) → at + number_size ≤ length bytes → number_at bytes at ≡ number_of (take number_size (drop at bytes))
+unfolding number_at
+number_there bytes at le = rw (le-ltb (length bytes) (at + number_size) le)
 
-pub number_eight :
-    (at : ℕ) (bytes : List ℕ) {low high : ℕ} →
-    low ≡ joined_at bytes at (at + 1) (at + 2) (at + 3) →
-    high ≡ joined_at bytes (at + 4) (at + 5) (at + 6) (at + 7) →
-    low + 4294967296 * high ≡ number_of (take number_size (drop at bytes))
-unfolding number_of
-number_eight at bytes {low} {high} e f =
-    let five : at + 4 + 1 ≡ at + 5 = omega arith in
-    let six : at + 4 + 2 ≡ at + 6 = omega arith in
-    let seven : at + 4 + 3 ≡ at + 7 = omega arith in
-    omega (arith, e, f, number_four 4 at bytes, rw (five, six, seven) at (number_four 0 (at + 4) bytes))
+pub number_missing : (bytes : List ℕ) (at : ℕ) → length bytes < at + number_size → number_at bytes at ≡ 0
+unfolding number_at
+number_missing bytes at lt = rw (lt-ltb (length bytes) (at + number_size) lt)
+
+-- eight bytes from a place on, joined
+pub number_read :
+    (at : ℕ) (bytes rest chunk : List ℕ) →
+    at ≤ length bytes →
+    rest ≡ slice_range bytes at (length bytes) →
+    IsFirstChunk rest chunk number_size →
+    from_le_bytes w64 chunk ≡ number_at bytes at
+number_read at bytes rest chunk inside part first =
+    let whole : rest ≡ drop at bytes = part ∙ between_to_end bytes at (length bytes) (omega arith) in
+    let same : chunk ≡ take number_size (drop at bytes) = first.same ∙ ap (take number_size) whole in
+    let long : number_size + at ≤ length bytes = omega (arith, first.enough, ap length whole, length-drop at bytes) in
+    number_eight chunk (ap length first.same ∙ length-take-le number_size rest first.enough)
+    ∙ ap number_of same
+    ∙ sym (number_there bytes at (omega arith))
 
 -- one number more, the last
 held_more :
@@ -92,12 +98,3 @@ held_at size zero k bytes lt = absurd (omega arith)
 held_at size (suc n) zero bytes lt = rw (mul-zero size)
 held_at size (suc n) (suc k) bytes lt =
     held_at size n k (drop size bytes) (omega arith) ∙ rw (mul-suc size k, add_comm (size * k) size, ← drop-drop (size * k) size bytes)
-
--- a number that has its bytes
-pub number_there : (bytes : List ℕ) (at : ℕ) → at + number_size ≤ length bytes → number_at bytes at ≡ number_of (take number_size (drop at bytes))
-unfolding number_at
-number_there bytes at le = rw (le-ltb (length bytes) (at + number_size) le)
-
-pub number_missing : (bytes : List ℕ) (at : ℕ) → length bytes < at + number_size → number_at bytes at ≡ 0
-unfolding number_at
-number_missing bytes at lt = rw (lt-ltb (length bytes) (at + number_size) lt)

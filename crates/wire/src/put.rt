@@ -9,27 +9,20 @@ use crate::WORD_BYTES;
 fn put_word(part: &mut [u8], word: u32)
     ensures { part.new ≡ with_words (word ∷ []) part.old }
 {
-    if part.len() < WORD_BYTES {
-        return;
+    if let Some(bytes) = part.first_chunk_mut::<WORD_BYTES>() {
+        *bytes = word.to_le_bytes();
     }
-    part[0] = (word % 256) as u8;
-    part[1] = (word / 256 % 256) as u8;
-    part[2] = (word / 65536 % 256) as u8;
-    part[3] = (word / 16777216 % 256) as u8;
 }
 
 // Writes words at the start of bytes; nothing where there is no room for all of them.
 pub fn put_words(bytes: &mut [u8], words: &[u32])
     ensures { bytes.new ≡ with_words words.now bytes.old }
 {
-    let count = words.len();
-    if bytes.len() / WORD_BYTES < count {
+    if bytes.len() / WORD_BYTES < words.len() {
         return;
     }
-    let mut k: usize = 0;
-    while k < count {
-        let start = WORD_BYTES * k;
-        put_word(&mut bytes[start..], words[k]);
-        k += 1;
+    // By index, since of what `chunks_exact_mut` lent a proof knows only the length.
+    for (k, word) in words.iter().enumerate() {
+        put_word(&mut bytes[WORD_BYTES * k..], *word);
     }
 }

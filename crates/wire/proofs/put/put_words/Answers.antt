@@ -11,12 +11,12 @@ use Rattle.wire.proofs.ByteLaws.{with_words_lem, without_words}
 use Rattle.wire.proofs.PutLaws.{put_more}
 use Rattle.wire.proofs.put.put_words.Goals as goal
 
-pub returns-then-bytes-count : goal.returns-then-bytes-count
-returns-then-bytes-count c = let a = c.args in without_words a.words.now a.bytes.now (omega arith)
+pub returns-then-bytes-words : goal.returns-then-bytes-words
+returns-then-bytes-words c = let a = c.args in without_words a.words.now a.bytes.now (omega arith)
 
 pub loop-k-init : goal.loop-k-init
 unfolding in_bytes
-loop-k-init c = (omega arith, omega arith, refl, refl)
+loop-k-init c = (omega arith, refl, refl)
 
 pub loop-k-preserved : goal.loop-k-preserved
 loop-k-preserved c =
@@ -25,14 +25,13 @@ loop-k-preserved c =
     let inv = c.loop-k.invariant in
     let xs = c.loop-k.bytes in
     let start = word_size * c.loop-k.k in (
-      omega arith,
-      inv.1,
-      same_len_mid start (length xs - start) xs call.new.part call.auto.part ∙ inv.2,
-      put_more a.words.now a.bytes.now xs call.new.part c.loop-k.k (omega arith) (omega arith) inv.3 call.ensures,
+      inv.0,
+      same_len_mid start (length xs - start) xs call.new.part call.auto.part ∙ inv.1,
+      put_more a.words.now a.bytes.now xs call.new.part c.loop-k.k (omega arith) (omega arith) inv.2 call.ensures,
     )
 
 pub returns : goal.returns
 returns c =
     let words = c.args.words.now in
     let whole : c.loop-k.k ≡ length words = omega arith in
-    (rw (whole, take-length words) at c.loop-k.invariant.3) ∙ sym (with_words_lem words c.args.bytes.now c.loop-k.invariant.1)
+    (rw (whole, take-length words) at c.loop-k.invariant.2) ∙ sym (with_words_lem words c.args.bytes.now c.loop-k.invariant.0)
