@@ -6,7 +6,12 @@ use mathlib.Core.List.{List}
 use mathlib.Core.Logic.{⊎_elim}
 use Prim.Native.Nat.{ℕ, zero, suc, ◌<◌}
 use native.Mathlib.Omega.{arith}
-use Rattle.laws.specs.facts.Told.{Fault}
+use Rattle.std.specs.Prelude.{Option, None, Ok, Err}
+use Rattle.laws.specs.declared.rules.Refusal.{Refusal}
+use Rattle.laws.specs.facts.Told.{Fault, number_of}
+use Rattle.laws.specs.answers.Told.{second_of, told_of}
+use Rattle.laws.proofs.ToldLaws.{rule_counts}
+use Rattle.affinity.specs.answers.Told.{mask_told}
 use Rattle.laws.specs.answers.Fault.{plain, told}
 use Rattle.laws.proofs.SearchLaws.{true_false}
 use Rattle.laws.proofs.DecideLaws.{decided, eq_decides}
@@ -36,19 +41,20 @@ module _ (list positions : List ℕ) where
   abbrev rest : Fault
   rest = told (plan_number list positions) 0
 
-  pub check_refused : (a : ListMask) → a ≡ mask_answer list → (a.number ≡ 0 → ⊥) → plain a.number a.place ≡ plan_fault list positions
+  pub check_refused : (r : Refusal) → mask_told (Err r) ≡ mask_answer list → r.property ≡ None → told_of r ≡ plan_fault list positions
   unfolding plan_fault
-  check_refused a e ne =
-      let t = list_refused list a e ne in
-      ap₂ plain t.1 t.2
+  check_refused r e none =
+      let t = list_refused list (mask_told (Err r)) e (rule_counts r.rule) in
+      ap (λ (p : Option ℕ). record { number = number_of r.rule; place = r.place; second = second_of p }) none
+      ∙ ap₂ plain t.1 t.2
       ∙ ap (λ (s : ℕ). record { number = (list_fault list).number; place = (list_fault list).place; second = s }) (sym (fault_plain list))
       ∙ sym (or_first (list_fault list) rest t.0)
 
   pub check_accepted :
-      (a : ListMask) → a ≡ mask_answer list → a.number ≡ 0 → {v : ℕ} → v ≡ plan_number list positions → plain v 0 ≡ plan_fault list positions
+      (mask : ℕ) → mask_told (Ok mask) ≡ mask_answer list → {v : ℕ} → v ≡ plan_number list positions → plain v 0 ≡ plan_fault list positions
   unfolding plan_fault
-  check_accepted a e z {v} q =
-      plain_told v ∙ ap (λ (n : ℕ). told n 0) q ∙ sym (or_second (list_fault list) rest (list_accepted list a e z).0)
+  check_accepted mask e {v} q =
+      plain_told v ∙ ap (λ (n : ℕ). told n 0) q ∙ sym (or_second (list_fault list) rest (list_accepted list (mask_told (Ok mask)) e refl).0)
 
   abbrev R : ℕ → ℕ → Type 0
   R = PlanRule list positions

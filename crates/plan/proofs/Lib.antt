@@ -1,5 +1,6 @@
 -- SPDX-License-Identifier: BSD-2-Clause OR GPL-2.0-or-later
 -- Laws that belong to no one function, and what is claimed of the definitions.
+mod AnyLaws
 pub mod DigitLessLaws
 pub mod SeparateLaws
 pub mod PositionLaws

@@ -15,48 +15,26 @@ pub fn check_plan(list: &[u64], positions: &[u32]) -> Result<(), Refusal>
     ensures demands { PlanDemands list.now positions.now (told_in result) }
     ensures plain { IfErr result (λ refusal. refusal.property ≡ None) }
 {
-    let answer = affinity::list_mask(list);
-    if answer.number != 0 {
-        return Fault {
-            number: answer.number,
-            place: answer.place,
-            second: NO_PROPERTY,
-        };
-    }
-    let number = plan_number(list, positions);
-    Fault {
-        number,
-        place: 0,
-        second: NO_PROPERTY,
-    }
+    affinity::list_mask(list)?;
+    plan_number(list, positions)?;
+    Ok(())
 }
 
-// 40 for positions that are no plan, else 0.
-fn plan_number(list: &[u64], positions: &[u32]) -> u32
-    ensures { result ≡ plan_number list.now positions.now }
+// Rule 40: the positions are a plan for the list.
+fn plan_number(list: &[u64], positions: &[u32]) -> Result<(), Rule>
+    ensures { number_in result ≡ plan_number list.now positions.now }
 {
-    if bad_positions(positions) {
-        return rules::PLAN_POSITIONS;
+    if bad_positions(positions) || clashes(list, keep_of(positions)) {
+        return Err(Rule::PlanPositions);
     }
-    let keep = keep_of(positions);
-    if clashes(list, keep) {
-        return rules::PLAN_POSITIONS;
-    }
-    0
+    Ok(())
 }
 
 // Whether some position is no affinity bit, or does not rise.
 fn bad_positions(positions: &[u32]) -> bool
     ensures { result ≡ bad_positions positions.now }
 {
-    let mut i: usize = 0;
-    while i < positions.len() {
-        if bad_position(positions, i) {
-            return true;
-        }
-        i += 1;
-    }
-    false
+    (0..positions.len()).any(|i| bad_position(positions, i))
 }
 
 // Whether the position at an index is no affinity bit, or does not rise.
@@ -64,29 +42,14 @@ fn bad_position(positions: &[u32], i: usize) -> bool
     requires { i < length positions.now }
     ensures { result ≡ bad_position positions.now i }
 {
-    if !is_bit(positions[i]) {
-        return true;
-    }
-    if i == 0 {
-        return false;
-    }
-    if positions[i - 1] < positions[i] {
-        return false;
-    }
-    true
+    !is_bit(positions[i]) || (i != 0 && positions[i] <= positions[i - 1])
 }
 
 // Whether a position is an affinity bit.
 fn is_bit(p: u32) -> bool
     ensures { result ≡ is_bit p }
 {
-    if p < 24 {
-        return true;
-    }
-    if 32 <= p {
-        return p < 40;
-    }
-    false
+    p < 24 || (32 <= p && p < 40)
 }
 
 // The bits at the positions.
@@ -94,11 +57,9 @@ fn keep_of(positions: &[u32]) -> u64
     requires { Positions positions.now }
     ensures { result ≡ keep_of positions.now }
 {
-    let mut keep: u64 = 0;
-    let mut i: usize = 0;
-    while i < positions.len() {
-        keep = keep | (1 << positions[i]);
-        i += 1;
+    let mut keep = 0;
+    for p in positions {
+        keep |= 1 << *p;
     }
     keep
 }
@@ -107,14 +68,7 @@ fn keep_of(positions: &[u32]) -> u64
 pub fn clashes(list: &[u64], keep: u64) -> bool
     ensures { result ≡ clashes list.now keep }
 {
-    let mut j: usize = 0;
-    while j < list.len() {
-        if clashes_at(list, keep, j) {
-            return true;
-        }
-        j += 1;
-    }
-    false
+    (0..list.len()).any(|j| clashes_at(list, keep, j))
 }
 
 // Whether one of the list before index j clashes with the one there.
@@ -122,25 +76,12 @@ fn clashes_at(list: &[u64], keep: u64, j: usize) -> bool
     requires { j < length list.now }
     ensures { result ≡ clashes_at list.now keep j }
 {
-    let mut i: usize = 0;
-    while i < j {
-        if clash(keep, list[i], list[j]) {
-            return true;
-        }
-        i += 1;
-    }
-    false
+    list[..j].iter().any(|a| clash(keep, *a, list[j]))
 }
 
 // Whether two numbers differ, and not in the bits to keep.
 fn clash(keep: u64, a: u64, b: u64) -> bool
     ensures { result ≡ clash keep a b }
 {
-    if a & keep == b & keep {
-        if a == b {
-            return false;
-        }
-        return true;
-    }
-    false
+    a & keep == b & keep && a != b
 }

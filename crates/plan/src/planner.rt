@@ -20,16 +20,8 @@ pub fn plan_of(list: &[u64]) -> Result<Plan, Refusal>
     ensures demands { MakeDemands list.now (plan_told result) }
     ensures plain { IfErr result (λ refusal. refusal.property ≡ None) }
 {
-    let answer = affinity::list_mask(list);
-    if answer.number != 0 {
-        return Plan {
-            number: answer.number,
-            place: answer.place,
-            count: 0,
-            positions: [0; 32],
-        };
-    }
-    ones_of(thinned(list, answer.mask))
+    let mask = affinity::list_mask(list)?;
+    Ok(ones_of(thinned(list, mask)))
 }
 
 // What is left of the mask once each bit was tried.
@@ -38,10 +30,8 @@ fn thinned(list: &[u64], mask: u64) -> u64
     ensures { result ≡ thinned list.now 40 }
 {
     let mut keep = mask;
-    let mut k: u32 = 0;
-    while k < BITS {
+    for k in 0..BITS {
         keep = dropped(list, keep, k);
-        k += 1;
     }
     keep
 }
@@ -53,10 +43,9 @@ fn dropped(list: &[u64], keep: u64, k: u32) -> u64
 {
     if (keep >> k) % 2 == 1 {
         let fewer = keep - (1 << k);
-        if clashes(list, fewer) {
-            return keep;
+        if !clashes(list, fewer) {
+            return fewer;
         }
-        return fewer;
     }
     keep
 }
@@ -64,22 +53,15 @@ fn dropped(list: &[u64], keep: u64, k: u32) -> u64
 // The plan with the positions of a number's ones.
 fn ones_of(keep: u64) -> Plan
     requires { Affine keep }
-    ensures { result ≡ plan_with (ones_of keep) }
+    ensures { plan_told (Ok result) ≡ plan_with (ones_of keep) }
 {
-    let mut positions = [0u32; 32];
-    let mut count: usize = 0;
-    let mut k: u32 = 0;
-    while k < BITS {
+    let mut positions = [0; 32];
+    let mut count = 0;
+    for k in 0..BITS {
         if (keep >> k) % 2 == 1 {
             positions[count] = k;
             count += 1;
         }
-        k += 1;
     }
-    Plan {
-        number: 0,
-        place: 0,
-        count,
-        positions,
-    }
+    Plan { count, positions }
 }

@@ -15,27 +15,11 @@ pub fn plan_slot(mpidr: u64, list: &[u64], positions: &[u32]) -> Result<u32, Ref
     ensures demands { PlanSlotDemands list.now positions.now mpidr (slot_told result) }
     ensures plain { IfErr result (λ refusal. refusal.property ≡ None) }
 {
-    let fault = check_plan(list, positions);
-    if fault.number != 0 {
-        return ListSlot {
-            number: fault.number,
-            place: fault.place,
-            slot: 0,
-        };
-    }
+    check_plan(list, positions)?;
     if !is_among(list, mpidr) {
-        return ListSlot {
-            number: rules::LIST_UNKNOWN,
-            place: 0,
-            slot: 0,
-        };
+        return Err(Rule::ListUnknown.at(0));
     }
-    let slot = slot_under(positions, mpidr);
-    ListSlot {
-        number: 0,
-        place: 0,
-        slot,
-    }
+    Ok(slot_under(positions, mpidr))
 }
 
 // The bits of an MPIDR at the positions, the lowest position in bit 0.
@@ -43,12 +27,10 @@ fn slot_under(positions: &[u32], mpidr: u64) -> u32
     requires { Positions positions.now }
     ensures { result ≡ slot_under positions.now mpidr }
 {
-    let mut slot: u32 = 0;
-    let mut i: usize = 0;
-    while i < positions.len() {
-        let bit = ((mpidr >> positions[i]) % 2) as u32;
-        slot = slot + (bit << (i as u32));
-        i += 1;
+    let mut slot = 0;
+    for (i, p) in positions.iter().enumerate() {
+        let bit = ((mpidr >> *p) % 2) as u32;
+        slot += bit << i;
     }
     slot
 }

@@ -9,28 +9,25 @@ use Rattle.plan.proofs.DigitLessLaws.{pow_shl}
 use Rattle.plan.proofs.PositionLaws.{bit_lt}
 use Rattle.plan.proofs.check.keep_of.Goals as goal
 
-pub loop-i-init : goal.loop-i-init
+pub loop-p-init : goal.loop-p-init
 unfolding keep_below
-loop-i-init c = (omega arith, refl)
-
-pub overflow_cast-keep : goal.overflow_cast-keep
-overflow_cast-keep c = omega (arith, c.type_inv.positions c.loop-i.i)
+loop-p-init c = refl
 
 pub overflow_shl-keep : goal.overflow_shl-keep
 overflow_shl-keep c =
-    let i = c.loop-i.i in
+    let i = c.loop-p.p-index in
     omega (arith, bit_lt _ (c.requires.affine i (omega arith)))
 
-pub loop-i-preserved : goal.loop-i-preserved
+pub loop-p-preserved : goal.loop-p-preserved
 unfolding keep_below
-loop-i-preserved c =
-    let loop = c.loop-i in
-    let low = bit_lt _ (c.requires.affine loop.i (omega arith)) in
-    (omega arith, rw (add-one, pow_shl (get_or c.args.positions.now loop.i 0) (omega arith), loop.invariant.1))
+loop-p-preserved c =
+    let loop = c.loop-p in
+    let low = bit_lt _ (c.requires.affine loop.p-index (omega arith)) in
+    rw (add-one, pow_shl (get_or c.args.positions.now loop.p-index 0) (omega arith), loop.invariant)
 
 pub returns : goal.returns
 returns c =
     let positions = c.args.positions.now in
-    let loop = c.loop-i in
-    let end : loop.i ≡ length positions = omega arith in
-    loop.invariant.1 ∙ ap (keep_below positions) end
+    let loop = c.loop-p in
+    let end : loop.p-index ≡ length positions = omega arith in
+    loop.invariant ∙ ap (keep_below positions) end

@@ -14,21 +14,21 @@ overflow_sub-fewer c =
     let a = c.args in
     rw (pow_shl a.k (omega arith)) (one_le a.keep a.k c.if-keep-k-eq1.true)
 
-pub returns-then-clashes : goal.returns-then-clashes
+pub returns-then-not-clashes : goal.returns-then-not-clashes
 unfolding digit dropped
-returns-then-clashes c =
-    let a = c.args in
-    let found = sym c.clashes.ensures ∙ c.if-clashes.true in
-    rw (eq-eqb _ 1 c.if-keep-k-eq1.true, ← pow_shl a.k (omega arith), found)
-
-pub returns-then-keep-k-eq1 : goal.returns-then-keep-k-eq1
-unfolding digit dropped
-returns-then-keep-k-eq1 c =
+returns-then-not-clashes c =
     let a = c.args in
     let e = pow_shl a.k (omega arith) in
-    let clear = rw e at (sym c.clashes.ensures ∙ c.if-clashes.false) in
+    let clear = rw e at (sym c.clashes.ensures ∙ c.if-not-clashes.true) in
     rw (eq-eqb _ 1 c.if-keep-k-eq1.true, e, clear)
 
-pub returns : goal.returns
+pub returns-else-not-clashes : goal.returns-else-not-clashes
 unfolding digit dropped
-returns c = rw (ne_eqb _ 1 c.if-keep-k-eq1.false)
+returns-else-not-clashes c =
+    let a = c.args in
+    let found = sym c.clashes.ensures ∙ c.if-not-clashes.false in
+    rw (eq-eqb _ 1 c.if-keep-k-eq1.true, ← pow_shl a.k (omega arith), found)
+
+pub returns-else-keep-k-eq1 : goal.returns-else-keep-k-eq1
+unfolding digit dropped
+returns-else-keep-k-eq1 c = rw (ne_eqb _ 1 c.if-keep-k-eq1.false)

@@ -22,24 +22,24 @@ is_one keep k =
 
 pub loop-k-init : goal.loop-k-init
 unfolding count_below list_below
-loop-k-init c = (omega arith, refl, sym (over_none (replicate 32 0)))
+loop-k-init c = (refl, sym (over_none (replicate 32 0)))
 
 pub offset_bounds-positions-count : goal.offset_bounds-positions-count
 offset_bounds-positions-count c =
     let loop = c.loop-k in
-    omega (arith, loop.invariant.1, count_le (is_one c.args.keep) loop.k)
+    omega (arith, loop.invariant.0, count_le (is_one c.args.keep) loop.k)
 
 pub bounds-positions-count : goal.bounds-positions-count
 unfolding digit
 bounds-positions-count c =
     let loop = c.loop-k in
-    omega (arith, loop.invariant.1, one_room c.args.keep c.requires loop.k (omega arith) (eq-eqb _ 1 c.if-keep-k-eq1.true))
+    omega (arith, loop.invariant.0, one_room c.args.keep c.requires loop.k (omega arith) (eq-eqb _ 1 c.if-keep-k-eq1.true))
 
 pub overflow_add-count : goal.overflow_add-count
 unfolding digit
 overflow_add-count c =
     let loop = c.loop-k in
-    omega (arith, loop.invariant.1, count_le (is_one c.args.keep) loop.k)
+    omega (arith, loop.invariant.0, count_le (is_one c.args.keep) loop.k)
 
 pub loop-k-preserved : goal.loop-k-preserved
 unfolding digit
@@ -50,15 +50,13 @@ loop-k-preserved c =
     elim c.if-keep-k-eq1.branch [
       | then-keep-k-eq1 w ↦
           let yes = eq-eqb _ 1 w.if-keep-k-eq1.true in (
-            omega arith,
-            omega (arith, loop.invariant.1, count_yes p loop.k yes, w.count-is),
-            w.positions-is ∙ listed_yes p loop.k none loop.invariant.1 loop.invariant.2 yes,
+            omega (arith, loop.invariant.0, count_yes p loop.k yes, w.count-is),
+            w.positions-is ∙ listed_yes p loop.k none loop.invariant.0 loop.invariant.1 yes,
           )
       | else-keep-k-eq1 w ↦
           let other = ne_eqb _ 1 w.if-keep-k-eq1.false in (
-            omega arith,
-            omega (arith, loop.invariant.1, count_no p loop.k other, w.count-is),
-            w.positions-is ∙ listed_no p loop.k none loop.invariant.1 loop.invariant.2 other,
+            omega (arith, loop.invariant.0, count_no p loop.k other, w.count-is),
+            w.positions-is ∙ listed_no p loop.k none loop.invariant.0 loop.invariant.1 other,
           )
     ]
 
@@ -68,4 +66,4 @@ returns c =
     let loop = c.loop-k in
     let keep = c.args.keep in
     let end : loop.k ≡ 40 = omega arith in
-    rw (loop.invariant.1, loop.invariant.2, end, list_length (is_one keep) 40)
+    rw (loop.invariant.0, loop.invariant.1, end, list_length (is_one keep) 40)

@@ -1,7 +1,6 @@
 -- SPDX-License-Identifier: BSD-2-Clause OR GPL-2.0-or-later
 -- `ones_of` writes the place of each one behind those before it. Assumes nothing.
 use mathlib.Core.Path.{◌≡◌}
-use Prim.Native.Nat.{◌≤◌, ◌-◌}
 use lib.Dec.{eqb}
 use lib.ListN.{replicate}
 use Rattle.laws.specs.facts.Digit.{digit}
@@ -10,7 +9,5 @@ use Rattle.laws.specs.answers.Listed.{laid_over}
 use Rattle.plan.proofs.planner.ones_of.Given as goal
 
 abbrev pub invariant-loop-k : goal.invariant-loop-k
-invariant-loop-k l = (l.k ≤ 40) × (l.count ≡ count_below (λ k. eqb (digit l.keep k) 1) l.k) × (l.positions ≡ laid_over (list_below (λ k. eqb (digit l.keep k) 1) l.k) (replicate 32 0))
-
-abbrev pub decreases-loop-k : goal.decreases-loop-k
-decreases-loop-k l = 40 - l.k
+invariant-loop-k l = (l.count ≡ count_below (λ k. eqb (digit l.keep k) 1) l.k)
+    × (l.positions ≡ laid_over (list_below (λ k. eqb (digit l.keep k) 1) l.k) (replicate 32 0))

@@ -8,16 +8,16 @@ use Rattle.plan.proofs.planner.thinned.Goals as goal
 
 pub loop-k-init : goal.loop-k-init
 unfolding thinned
-loop-k-init c = (omega arith, c.requires)
+loop-k-init c = c.requires
 
 pub loop-k-preserved : goal.loop-k-preserved
 unfolding thinned
 loop-k-preserved c =
     let loop = c.loop-k in
-    (omega arith, rw (add-one, ← loop.invariant.1) c.dropped-keep.ensures)
+    rw (add-one, ← loop.invariant) c.dropped-keep.ensures
 
 pub returns : goal.returns
 returns c =
     let loop = c.loop-k in
     let end : loop.k ≡ 40 = omega arith in
-    loop.invariant.1 ∙ ap (thinned c.args.list.now) end
+    loop.invariant ∙ ap (thinned c.args.list.now) end

@@ -1,12 +1,8 @@
 -- SPDX-License-Identifier: BSD-2-Clause OR GPL-2.0-or-later
 -- `thinned` tries each bit, from the lowest up. Assumes nothing.
 use mathlib.Core.Path.{◌≡◌}
-use Prim.Native.Nat.{◌≤◌, ◌-◌}
 use Rattle.plan.specs.answers.Planner.{thinned}
 use Rattle.plan.proofs.planner.thinned.Given as goal
 
 abbrev pub invariant-loop-k : goal.invariant-loop-k
-invariant-loop-k l = (l.k ≤ 40) × (l.keep ≡ thinned l.list l.k)
-
-abbrev pub decreases-loop-k : goal.decreases-loop-k
-decreases-loop-k l = 40 - l.k
+invariant-loop-k l = l.keep ≡ thinned l.list l.k

@@ -14,7 +14,7 @@ use Rattle.plan.proofs.slot.slot_under.Goals as goal
 
 pub loop-i-init : goal.loop-i-init
 unfolding from_digits
-loop-i-init c = (omega arith, refl)
+loop-i-init c = refl
 
 pub overflow_cast-bit : goal.overflow_cast-bit
 overflow_cast-bit c = omega (arith, c.type_inv.positions c.loop-i.i)
@@ -35,14 +35,14 @@ unfolding digit
 overflow_add-slot c =
     let loop = c.loop-i in
     let d : ℕ → ℕ = λ n. digit c.args.mpidr (get_or c.args.positions.now n 0) in
-    omega (arith, loop.invariant.1, digit_fits d (λ k. digit_lt _ _) loop.i (omega (arith, positions_few _ c.requires)))
+    omega (arith, loop.invariant, digit_fits d (λ k. digit_lt _ _) loop.i (omega (arith, positions_few _ c.requires)))
 
 pub loop-i-preserved : goal.loop-i-preserved
 unfolding digit
 loop-i-preserved c =
     let loop = c.loop-i in
     let d : ℕ → ℕ = λ n. digit c.args.mpidr (get_or c.args.positions.now n 0) in
-    (omega arith, rw loop.invariant.1 (digit_step d (λ k. digit_lt _ _) loop.i (omega (arith, positions_few _ c.requires))))
+    rw loop.invariant (digit_step d (λ k. digit_lt _ _) loop.i (omega (arith, positions_few _ c.requires)))
 
 pub returns : goal.returns
 unfolding slot_under
@@ -50,4 +50,4 @@ returns c =
     let a = c.args in
     let loop = c.loop-i in
     let end : loop.i ≡ length a.positions.now = omega arith in
-    loop.invariant.1 ∙ ap (from_digits (λ n. digit a.mpidr (get_or a.positions.now n 0))) end
+    loop.invariant ∙ ap (from_digits (λ n. digit a.mpidr (get_or a.positions.now n 0))) end
