@@ -20,7 +20,6 @@ use Rattle.laws.proofs.FirstLaws.{Tells}
 use Rattle.laws.proofs.RuleStageLaws.{Split, split_tells, tells_as, tells_first, tells_none}
 use Rattle.laws.proofs.SecondPlaceLaws.{told_plain, else_plain}
 use Rattle.laws.proofs.VerdictLaws.{Verdict, held, once_tells}
-use Rattle.affinity.specs.facts.Told.{ListMask}
 use Rattle.affinity.specs.facts.List.{ListRule}
 use Rattle.affinity.specs.answers.List.{list_fault, mask_answer}
 use Rattle.plan.specs.facts.Plan.{Positions, SeparatedAt}

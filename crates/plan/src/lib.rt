@@ -10,7 +10,7 @@ pub use check::check_plan;
 pub use planner::plan_of;
 pub use slot::plan_slot;
 
-// A plan: its positions, rising, are the first `count` of the array.
+// A plan: its positions, rising, are the first `count` of the array. The count stands beside it since there is no heap to grow a list on.
 #[derive(Clone, Copy)]
 pub struct Plan {
     pub count: usize,
