@@ -3,7 +3,7 @@
 use Rattle.std.specs.Prelude.{Option, None, Some}
 use mathlib.Core.Path.{◌≡◌, refl, ◌∙◌}
 use mathlib.Core.Logic.{inl, inr}
-use mathlib.Core.Bool.{Bool, true, false, cond, ◌&&◌}
+use mathlib.Core.Bool.{Bool, true, false, cond, not, ◌||◌}
 use mathlib.Core.List.{List, [], ◌∷◌}
 use Prim.Native.Nat.{ℕ, ◌+◌, ◌-◌, ◌*◌, ◌^◌, ◌≤◌, ◌<◌}
 use native.Mathlib.Nat.{pow-suc, pow-le-pow_right, zero-lt-suc}
@@ -12,19 +12,37 @@ use native.Mathlib.Omega.{arith}
 use lib.Dec.{eqb, ltb}
 use borrow.Author.Tests.{lt-ltb, le-ltb}
 use Rattle.std.specs.Char.{IsAsciiDigit, IsNotAsciiDigit}
-use lib.Pointwise.{pointwise}
+use Rattle.std.specs.List.{list_any, zip}
 use lib.ListN.{length, take, drop, get_or}
 use lib.Seq.{drop-cons, drop-length}
 use Rattle.names.specs.answers.Name.{starts_with, digits_from}
 
--- the test of a name's head is that of its start
-pub head_starts : (word name : List ℕ) → pointwise eqb (take (length word) name) word ≡ starts_with word name
+-- a name shorter than a word does not begin with it
+pub starts_short : (word name : List ℕ) → length name < length word → starts_with word name ≡ false
 unfolding starts_with
-head_starts [] name = refl
-head_starts (w ∷ ws) [] = refl
-head_starts (w ∷ ws) (b ∷ bs) = go (eqb b w) (head_starts ws bs)
+starts_short [] name h = absurd (omega arith)
+starts_short (w ∷ ws) [] h = refl
+starts_short (w ∷ ws) (b ∷ bs) h = go (eqb b w) (starts_short ws bs (omega arith))
   where
-    go : (t : Bool) → pointwise eqb (take (length ws) bs) ws ≡ starts_with ws bs → (t && pointwise eqb (take (length ws) bs) ws) ≡ cond t (starts_with ws bs) false
+    go : (t : Bool) → starts_with ws bs ≡ false → cond t (starts_with ws bs) false ≡ false
+    go true ih = ih
+    go false ih = refl
+
+-- any other begins with it where no byte of its start is another than the word's
+abbrev pub differ : ℕ × ℕ → Bool
+differ p = not (eqb p.0 p.1)
+
+pub starts_long :
+    (word name : List ℕ) → length word ≤ length name → list_any differ (zip (take (length word) name) word) ≡ not (starts_with word name)
+unfolding starts_with
+starts_long [] name h = refl
+starts_long (w ∷ ws) [] h = absurd (omega arith)
+starts_long (w ∷ ws) (b ∷ bs) h = go (eqb b w) (starts_long ws bs (omega arith))
+  where
+    go :
+        (t : Bool) →
+        list_any differ (zip (take (length ws) bs) ws) ≡ not (starts_with ws bs) →
+        (not t || list_any differ (zip (take (length ws) bs) ws)) ≡ not (cond t (starts_with ws bs) false)
     go true ih = ih
     go false ih = refl
 

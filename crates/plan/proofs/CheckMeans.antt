@@ -50,7 +50,11 @@ module _ (list positions : List ℕ) where
       ∙ sym (or_first (list_fault list) rest t.0)
 
   pub check_accepted :
-      (mask : ℕ) → mask_told (Ok mask) ≡ mask_answer list → {v : ℕ} → v ≡ plan_number list positions → plain v 0 ≡ plan_fault list positions
+      (mask : ℕ) →
+      mask_told (Ok mask) ≡ mask_answer list →
+      {v : ℕ} →
+      v ≡ plan_number list positions →
+      plain v 0 ≡ plan_fault list positions
   unfolding plan_fault
   check_accepted mask e {v} q =
       plain_told v ∙ ap (λ (n : ℕ). told n 0) q ∙ sym (or_second (list_fault list) rest (list_accepted list (mask_told (Ok mask)) e refl).0)

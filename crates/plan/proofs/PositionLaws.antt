@@ -7,7 +7,6 @@ use mathlib.Core.List.{List}
 use Prim.Native.Nat.{ℕ, zero, suc, ◌-◌, ◌≤◌, ◌<◌}
 use native.Mathlib.Decide.{le_ind}
 use native.Mathlib.Omega.{arith}
-use lib.Dec.{ltb}
 use lib.ListN.{length, get_or}
 use borrow.Author.Tests.{ltb-true, lt-ltb}
 use Rattle.laws.proofs.SearchLaws.{true_false, any_at, any_place}
@@ -25,17 +24,10 @@ bit_decides p = either_decides (lt_decides p 24) (both_decides (le_decides 32 p)
 pub bit_lt : (p : ℕ) → AffinityBit p → p < 40
 bit_lt p = ⊎_elim (λ lt. omega arith) (λ t. t.1)
 
--- a position above the one before it
-pub rises_at : (positions : List ℕ) (i : ℕ) → (i ≡ 0 → ⊥) → rises positions i ≡ ltb (get_or positions (i - 1) 0) (get_or positions i 0)
-rises_at positions zero ne = absurd (ne refl)
-rises_at positions (suc i) ne = let e : suc i - 1 ≡ i = omega arith in rw e
-
-pub rises_zero : (positions : List ℕ) (i : ℕ) → i ≡ 0 → rises positions i ≡ true
-rises_zero positions zero e = refl
-rises_zero positions (suc i) e = absurd (omega arith)
-
 good_position :
-    (positions : List ℕ) (i : ℕ) → bad_position positions i ≡ false → (is_bit (get_or positions i 0) ≡ true) × (rises positions i ≡ true)
+    (positions : List ℕ) (i : ℕ) →
+    bad_position positions i ≡ false →
+    (is_bit (get_or positions i 0) ≡ true) × (rises positions i ≡ true)
 good_position positions i h = go (is_bit (get_or positions i 0)) refl (rises positions i) refl h
   where
     go :

@@ -47,7 +47,10 @@ number_eight bytes eight =
     )
 
 -- a number that has its bytes
-pub number_there : (bytes : List ℕ) (at : ℕ) → at + number_size ≤ length bytes → number_at bytes at ≡ number_of (take number_size (drop at bytes))
+pub number_there :
+    (bytes : List ℕ) (at : ℕ) →
+    at + number_size ≤ length bytes →
+    number_at bytes at ≡ number_of (take number_size (drop at bytes))
 unfolding number_at
 number_there bytes at le = rw (le-ltb (length bytes) (at + number_size) le)
 

@@ -1,21 +1,42 @@
 -- SPDX-License-Identifier: BSD-2-Clause OR GPL-2.0-or-later
 -- `number_after` meets its contract: what follows the word is read as a number. Assumes nothing.
-use mathlib.Core.Path.{sym, ap, ◌∙◌}
-use Rattle.names.specs.answers.Name.{number_of}
+use Rattle.std.proofs.Common.{rules, tests, Bool, true, false, not}
+use Rattle.std.proofs.lemmas.Iterator.{YieldsList-from_slice, YieldsList-from_zip}
+use Rattle.std.proofs.lemmas.Iterator.Search.{any_from_yields_List}
+use mathlib.Core.Path.{◌≡◌, ap, ◌∙◌}
+use lib.ListN.{length, take}
+use Rattle.names.specs.answers.Name.{starts_with, number_of}
 use Rattle.names.specs.steps.Name.{number_after}
-use Rattle.names.proofs.NameLaws.{head_starts}
+use Rattle.names.proofs.NameLaws.{starts_short, starts_long, differ}
 use Rattle.names.proofs.number_after.Goals as goal
+use Rattle.names.proofs.number_after.Goals.{After-any}
 
-pub returns-in_err-strip_prefix : goal.returns-in_err-strip_prefix
+-- what the search over the bytes tells
+told : (c : After-any) → starts_with c.args.word.now c.args.name.now ≡ not c.any.result
+told c =
+    let word = c.args.word.now in
+    let name = c.args.name.now in
+    let head = c.in_ok-start.ensures.cases in
+    let start = c.iter.ensures.rest ∙ head.1 in
+    let found = any_from_yields_List differ c.any.new.self _ c.any.result c.any.ensures.ran
+    (YieldsList-from_zip (YieldsList-from_slice (take (length word) name) (rw c.zip.ensures.first start)) (YieldsList-from_slice word (cc)))
+    (λ x b q k. search (rules, tests)) in
+    twice (starts_with word name) (found ∙ starts_long word name head.0)
+  where
+    twice : (s : Bool) {r : Bool} → r ≡ not s → s ≡ not r
+    twice true e = rw e
+    twice false e = rw e
+
+pub returns-in_err-start : goal.returns-in_err-start
 unfolding number_after
-returns-in_err-strip_prefix c =
-    let a = c.args in
-    rw (c.from_residual.ensures, sym (head_starts a.word.now a.name.now) ∙ c.in_err-strip_prefix.ensures.cases)
+returns-in_err-start c = rw (c.from_residual.ensures, starts_short _ _ c.in_err-start.ensures.cases)
+
+pub returns-then-any : goal.returns-then-any
+unfolding number_after
+returns-then-any c = rw (told (goal.at.returns-then-any c).After-any ∙ ap not c.if-any.true)
 
 pub returns : goal.returns
 unfolding number_after
 returns c =
-    let a = c.args in
-    let there = c.in_ok-strip_prefix.ensures.cases in
-    rw (sym (head_starts a.word.now a.name.now) ∙ there.0)
-    (c.number_of.ensures ∙ ap number_of there.1)
+    rw (told (goal.at.returns c).After-any ∙ ap not c.if-any.false)
+    (c.number_of.ensures ∙ ap number_of c.in_ok-start.ensures.cases.2)

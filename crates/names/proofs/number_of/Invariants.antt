@@ -7,4 +7,6 @@ use Rattle.names.specs.answers.Name.{number_of, digits_from}
 use Rattle.names.proofs.number_of.Given as goal
 
 abbrev pub invariant-loop-digit : goal.invariant-loop-digit
-invariant-loop-digit l = (length l.digits ≤ 4) × (l.value < 10 ^ l.digit-index) × (number_of l.digits ≡ digits_from l.value (drop l.digit-index l.digits))
+invariant-loop-digit l = (length l.digits ≤ 4)
+    × (l.value < 10 ^ l.digit-index)
+    × (number_of l.digits ≡ digits_from l.value (drop l.digit-index l.digits))

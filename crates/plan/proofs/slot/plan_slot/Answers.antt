@@ -26,7 +26,8 @@ unfolding plan_slot
 returns-then-not-is_among c =
     let a = c.args in
     let unlisted = sym c.is_among.ensures ∙ c.if-not-is_among.true in
-    let m = slot_meets a.list.now a.positions.now a.mpidr {r = record { number = 30; place = 0; slot = 0 }} (rw (← c.in_ok-check_plan.ensures.answer, unlisted)) in
+    let m = slot_meets a.list.now a.positions.now a.mpidr {r = record { number = 30; place = 0; slot = 0 }}
+    (rw (← c.in_ok-check_plan.ensures.answer, unlisted)) in
     rw c.at.ensures (record { answer = m.0; demands = m.1; plain = refl })
 
 pub slot_under-requires : goal.slot_under-requires
@@ -39,5 +40,6 @@ unfolding plan_slot
 returns c =
     let a = c.args in
     let listed = sym c.is_among.ensures ∙ c.if-not-is_among.false in
-    let m = slot_meets a.list.now a.positions.now a.mpidr {r = slot_told (Ok c.slot_under.result)} (rw (← c.in_ok-check_plan.ensures.answer, listed, c.slot_under.ensures)) in
+    let m = slot_meets a.list.now a.positions.now a.mpidr {r = slot_told (Ok c.slot_under.result)}
+    (rw (← c.in_ok-check_plan.ensures.answer, listed, c.slot_under.ensures)) in
     record { answer = m.0; demands = m.1; plain = tt }
