@@ -20,23 +20,18 @@ pub fn block_places(blob: &[u8]) -> BlockPlaces
     }
 }
 
-// 32 where a block leaves the total size or the structure block is not aligned, else 0.
+// Whether both blocks lie within the total size, and the structure block is aligned.
 pub fn blocks_fault(blob: &[u8]) -> Result<(), Rule>
     ensures { number_in result ≡ blocks_fault blob.now }
 {
     let total = wide(cell_at(blob, 4));
     let found = block_places(blob);
-    if total < found.start + found.size {
-        return rules::BLOB_BLOCKS;
+    if total < found.start + found.size
+        || total < found.strings + found.names
+        || found.start % 4 != 0
+        || found.size % 4 != 0
+    {
+        return Err(Rule::BlobBlocks);
     }
-    if total < found.strings + found.names {
-        return rules::BLOB_BLOCKS;
-    }
-    if found.start % 4 == 0 {
-        if found.size % 4 == 0 {
-            return 0;
-        }
-        return rules::BLOB_BLOCKS;
-    }
-    rules::BLOB_BLOCKS
+    Ok(())
 }

@@ -4,8 +4,8 @@ ghost use Rattle.std.specs.Prelude.{◌≡◌};
 ghost use Rattle.laws.specs.answers.Told.{number_in};
 ghost use Rattle.header.specs.answers.Fault.{version_fault, header_fault};
 
-use laws::limits::MAX_BLOB;
 use laws::Rule;
+use laws::limits::MAX_BLOB;
 use tables::{cell_at, wide};
 
 const HEADER_BYTES: usize = 40;
@@ -21,34 +21,22 @@ fn version_fault(blob: &[u8]) -> Result<(), Rule>
     let total = wide(cell_at(blob, 4));
     let version = cell_at(blob, 20);
     let compatible = cell_at(blob, 24);
-    if total < HEADER_BYTES {
-        return rules::BLOB_HEADER;
+    if total < HEADER_BYTES
+        || blob.len() < total
+        || version < FORMAT_VERSION
+        || FORMAT_VERSION < compatible
+    {
+        return Err(Rule::BlobHeader);
     }
-    if blob.len() < total {
-        return rules::BLOB_HEADER;
-    }
-    if version < FORMAT_VERSION {
-        return rules::BLOB_HEADER;
-    }
-    if FORMAT_VERSION < compatible {
-        return rules::BLOB_HEADER;
-    }
-    0
+    Ok(())
 }
 
-// 31 where the header is not that of a blob that can be read, else 0.
+// Whether the header is that of a blob that can be read.
 pub fn header_fault(blob: &[u8]) -> Result<(), Rule>
     ensures { number_in result ≡ header_fault blob.now }
 {
-    let magic = cell_at(blob, 0);
-    if blob.len() < HEADER_BYTES {
-        return rules::BLOB_HEADER;
+    if blob.len() < HEADER_BYTES || MAX_BLOB < blob.len() || cell_at(blob, 0) != MAGIC {
+        return Err(Rule::BlobHeader);
     }
-    if MAX_BLOB < blob.len() {
-        return rules::BLOB_HEADER;
-    }
-    if magic == MAGIC {
-        return version_fault(blob);
-    }
-    rules::BLOB_HEADER
+    version_fault(blob)
 }
