@@ -7,26 +7,22 @@ ghost use Rattle.tokens.specs.answers.Read.{zero_from, behind_zero};
 pub fn zero_from(bytes: &[u8], from: usize) -> usize
     ensures { result ≡ zero_from bytes.now from }
 {
-    let mut i = from;
-    while i < bytes.len() {
+    for i in from..bytes.len() {
         if bytes[i] == 0 {
             return i;
         }
-        i += 1;
     }
-    i
+    from.max(bytes.len())
 }
 
 // The place behind the last zero byte, 0 where there is none.
 pub fn behind_zero(bytes: &[u8]) -> usize
     ensures { result ≡ behind_zero bytes.now }
 {
-    let mut n = bytes.len();
-    while 0 < n {
-        if bytes[n - 1] == 0 {
-            return n;
+    for i in (0..bytes.len()).rev() {
+        if bytes[i] == 0 {
+            return i + 1;
         }
-        n -= 1;
     }
-    n
+    0
 }

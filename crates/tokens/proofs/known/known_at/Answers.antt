@@ -15,20 +15,20 @@ unfolding known_read
 by-cell c =
     rw c.cell_at-cell.ensures
 
-pub known_property-requires : goal.known_property-requires
-known_property-requires c = cell_inside _ _ 2 (sym c.cell_at-cell.ensures ∙ c.if-cell-eq-PROP.true)
+pub property_at-requires : goal.property_at-requires
+property_at-requires c = cell_inside _ _ 2 (sym c.cell_at-cell.ensures ∙ c.if-cell-eq-PROP.true)
 
 pub returns-then-cell-eq-PROP : goal.returns-then-cell-eq-PROP
-returns-then-cell-eq-PROP c = rw (← by-cell (goal.at.returns-then-cell-eq-PROP c).After-cell_at-cell, eq-eqb _ _ c.if-cell-eq-PROP.true) c.known_property.ensures
+returns-then-cell-eq-PROP c = rw (← by-cell (goal.at.returns-then-cell-eq-PROP c).After-cell_at-cell, eq-eqb _ _ c.if-cell-eq-PROP.true) c.property_at.ensures
 
 pub returns-then-cell-eq-NOP : goal.returns-then-cell-eq-NOP
 returns-then-cell-eq-NOP c = rw (← by-cell (goal.at.returns-then-cell-eq-NOP c).After-cell_at-cell, ne_eqb _ _ c.if-cell-eq-PROP.false, lt-ltb _ _ c.if-cell-gt-PROP.true, eq-eqb _ _ c.if-cell-eq-NOP.true)
 
-pub returns-then-cell-gt-PROP : goal.returns-then-cell-gt-PROP
-returns-then-cell-gt-PROP c = rw (← by-cell (goal.at.returns-then-cell-gt-PROP c).After-cell_at-cell, ne_eqb _ _ c.if-cell-eq-PROP.false, lt-ltb _ _ c.if-cell-gt-PROP.true, ne_eqb _ _ c.if-cell-eq-NOP.false)
+pub returns-else-cell-eq-NOP : goal.returns-else-cell-eq-NOP
+returns-else-cell-eq-NOP c = rw (← by-cell (goal.at.returns-else-cell-eq-NOP c).After-cell_at-cell, ne_eqb _ _ c.if-cell-eq-PROP.false, lt-ltb _ _ c.if-cell-gt-PROP.true, ne_eqb _ _ c.if-cell-eq-NOP.false)
 
-pub known_begin-requires : goal.known_begin-requires
-known_begin-requires c = cell_inside _ _ 0 (sym c.cell_at-cell.ensures ∙ c.if-cell-eq-BEGIN_NODE.true)
+pub begin_at-requires : goal.begin_at-requires
+begin_at-requires c = cell_inside _ _ 0 (sym c.cell_at-cell.ensures ∙ c.if-cell-eq-BEGIN_NODE.true)
 
 pub returns-then-cell-eq-BEGIN_NODE : goal.returns-then-cell-eq-BEGIN_NODE
 returns-then-cell-eq-BEGIN_NODE c =
@@ -37,7 +37,7 @@ returns-then-cell-eq-BEGIN_NODE c =
       ne_eqb _ _ c.if-cell-eq-PROP.false,
       le-ltb _ _ c.if-cell-gt-PROP.false,
       eq-eqb _ _ c.if-cell-eq-BEGIN_NODE.true,
-    ) c.known_begin.ensures
+    ) c.begin_at.ensures
 
 pub returns-then-cell-eq-END_NODE : goal.returns-then-cell-eq-END_NODE
 returns-then-cell-eq-END_NODE c =
@@ -49,10 +49,10 @@ returns-then-cell-eq-END_NODE c =
       eq-eqb _ _ c.if-cell-eq-END_NODE.true,
     )
 
-pub returns : goal.returns
-returns c =
+pub returns-else-cell-eq-END_NODE : goal.returns-else-cell-eq-END_NODE
+returns-else-cell-eq-END_NODE c =
     rw (
-      ← by-cell (goal.at.returns c).After-cell_at-cell,
+      ← by-cell (goal.at.returns-else-cell-eq-END_NODE c).After-cell_at-cell,
       ne_eqb _ _ c.if-cell-eq-PROP.false,
       le-ltb _ _ c.if-cell-gt-PROP.false,
       ne_eqb _ _ c.if-cell-eq-BEGIN_NODE.false,

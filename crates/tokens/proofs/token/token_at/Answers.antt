@@ -46,10 +46,10 @@ returns-then-cell-eq-END_NODE c =
       eq-eqb _ _ c.if-cell-eq-END_NODE.true,
     )
 
-pub returns-then-cell-lt-PROP : goal.returns-then-cell-lt-PROP
-returns-then-cell-lt-PROP c =
+pub returns-else-cell-eq-END_NODE : goal.returns-else-cell-eq-END_NODE
+returns-else-cell-eq-END_NODE c =
     rw (
-      ← by-cell (goal.at.returns-then-cell-lt-PROP c).After-cell_at-cell,
+      ← by-cell (goal.at.returns-else-cell-eq-END_NODE c).After-cell_at-cell,
       ne_eqb _ _ c.if-cell-eq-PROP.false,
       lt-ltb _ _ c.if-cell-lt-PROP.true,
       ne_eqb _ _ c.if-cell-eq-BEGIN_NODE.false,
@@ -69,10 +69,10 @@ returns-then-cell-eq-END c =
       eq-eqb _ _ c.if-cell-eq-END.true,
     )
 
-pub returns : goal.returns
-returns c =
+pub returns-else-cell-eq-END : goal.returns-else-cell-eq-END
+returns-else-cell-eq-END c =
     rw (
-      ← by-cell (goal.at.returns c).After-cell_at-cell,
+      ← by-cell (goal.at.returns-else-cell-eq-END c).After-cell_at-cell,
       ne_eqb _ _ c.if-cell-eq-PROP.false,
       le-ltb _ _ c.if-cell-lt-PROP.false,
       ne_eqb _ _ c.if-cell-eq-NOP.false,
