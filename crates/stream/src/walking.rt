@@ -23,19 +23,11 @@ pub fn survey(block: &[u8], named: usize, start: usize) -> Result<Walk, usize>
         props: 0,
     };
     while w.at < block.len() {
-        let at = w.at;
-        let next = step(block, w, token_at(block, named, at));
-        match next {
-            Next::On(v) => {
-                w = v;
-            }
-            Next::Ends(v) => {
-                return Surveyed::Whole(v);
-            }
-            Next::Breaks(place) => {
-                return Surveyed::Broken(place);
-            }
+        match step(block, w, token_at(block, named, w.at)) {
+            Next::On(v) => w = v,
+            Next::Ends(v) => return Ok(v),
+            Next::Breaks(place) => return Err(place),
         }
     }
-    Surveyed::Broken(block.len())
+    Err(block.len())
 }

@@ -5,38 +5,35 @@ use native.Mathlib.Omega.{arith}
 use Rattle.stream.specs.answers.Walk.{walk}
 use Rattle.stream.proofs.WalkLaws.{Stepped, walked_start, walked_step, walked_end}
 use Rattle.stream.proofs.walking.survey.Goals as goal
-use Rattle.stream.proofs.walking.survey.Goals.{After-step-next}
+use Rattle.stream.proofs.walking.survey.Goals.{After-step}
 
 pub loop-w-init : goal.loop-w-init
 loop-w-init c = let a = c.args in walked_start a.block.now a.named (omega arith) a.start
 
-pub step-next-requires : goal.step-next-requires
-step-next-requires c = c.loop-w.invariant.small c.loop-w-test.true
-
 -- the token at hand
 stepped :
-    (c : After-step-next) →
+    (c : After-step) →
     let a = c.args in
-    Stepped a.block.now a.named (walk a.block.now a.named a.start) c.loop-w.w.at c.step-next.result
+    Stepped a.block.now a.named (walk a.block.now a.named a.start) c.loop-w.w.at c.step.result
 stepped c =
     let a = c.args in
-    walked_step a.block.now a.named (omega arith) c.loop-w.invariant c.loop-w-test.true c.step-next.result
-    (rw (← c.token_at.ensures) c.step-next.ensures)
+    walked_step a.block.now a.named (omega arith) c.loop-w.invariant c.loop-w-test.true c.step.result
+    (rw (← c.token_at.ensures) c.step.ensures)
 
 pub loop-w-smaller : goal.loop-w-smaller
-loop-w-smaller c = omega (arith, (rw c.in-On.is at (stepped (goal.at.loop-w-smaller c).After-step-next)).1)
+loop-w-smaller c = omega (arith, (rw c.in-On.is at (stepped (goal.at.loop-w-smaller c).After-step)).1)
 
 pub loop-w-preserved : goal.loop-w-preserved
-loop-w-preserved c = (rw c.in-On.is at (stepped (goal.at.loop-w-preserved c).After-step-next)).0
+loop-w-preserved c = (rw c.in-On.is at (stepped (goal.at.loop-w-preserved c).After-step)).0
 
 pub returns-in-Ends : goal.returns-in-Ends
 returns-in-Ends c =
-    let s = rw c.in-Ends.is at (stepped (goal.at.returns-in-Ends c).After-step-next) in
+    let s = rw c.in-Ends.is at (stepped (goal.at.returns-in-Ends c).After-step) in
     record { walk = s.0; bounded = s.1 }
 
 pub returns-in-Breaks : goal.returns-in-Breaks
 returns-in-Breaks c =
-    let s = rw c.in-Breaks.is at (stepped (goal.at.returns-in-Breaks c).After-step-next) in
+    let s = rw c.in-Breaks.is at (stepped (goal.at.returns-in-Breaks c).After-step) in
     record { walk = s.0; bounded = s.1 }
 
 pub returns : goal.returns
