@@ -1,47 +1,42 @@
 // SPDX-License-Identifier: BSD-2-Clause OR GPL-2.0-or-later
 // One token: what it does to a walk. `block` has the blob's bytes up to the end of the structure block.
 ghost use Rattle.std.specs.Prelude.{◌≡◌};
-ghost use Rattle.stream.specs.answers.Walk.{cpus_mark, begun, step_of, Small};
+ghost use Rattle.stream.specs.answers.Walk.{begun, step_of, Small};
 
 use crate::{Next, Walk};
 use tables::range_is;
 use tokens::TokenRead;
-
-// 1 for a node named `cpus`, else 0.
-fn cpus_mark(block: &[u8], name: usize, len: usize) -> usize
-    ensures { result ≡ cpus_mark block.now name len }
-{
-    range_is(block, name, len, b"cpus") as usize
-}
 
 // A node begins.
 fn begun(block: &[u8], w: Walk, len: usize, next: usize) -> Walk
     requires { Small w }
     ensures { result ≡ begun block.now w len next }
 {
-    if w.depth != 1 {
-        return Walk {
+    if w.depth == 1 {
+        let is_cpus = range_is(block, w.at + 4, len, b"cpus");
+        let mark = is_cpus as usize;
+        Walk {
+            at: next,
+            depth: 2,
+            fresh: true,
+            inside: mark,
+            cpus: w.cpus + mark,
+            first: if is_cpus { w.at } else { w.first },
+            nodes: w.nodes + mark,
+            ..w
+        }
+    } else {
+        Walk {
             at: next,
             depth: w.depth + 1,
             fresh: true,
             nodes: w.nodes + w.inside,
             ..w
-        };
-    }
-    let mark = cpus_mark(block, w.at + 4, len);
-    Walk {
-        at: next,
-        depth: 2,
-        fresh: true,
-        inside: mark,
-        cpus: w.cpus + mark,
-        first: if mark == 1 { w.at } else { w.first },
-        nodes: w.nodes + mark,
-        ..w
+        }
     }
 }
 
-// One token. The root begins once, and outside it only the end token stands, last in the block. A property stands in a node, before its children.
+// One token. The root begins once, properties stand in a node before its children, and the end token behind the root, last in the block.
 pub fn step(block: &[u8], w: Walk, token: TokenRead) -> Next
     requires { Small w }
     ensures { result ≡ step_of block.now w token }
