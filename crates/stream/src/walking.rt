@@ -14,13 +14,8 @@ pub fn survey(block: &[u8], named: usize, start: usize) -> Result<Walk, usize>
 {
     let mut w = Walk {
         at: start,
-        depth: 0,
         fresh: true,
-        inside: 0,
-        cpus: 0,
-        first: 0,
-        nodes: 0,
-        props: 0,
+        ..Walk::default()
     };
     while w.at < block.len() {
         match step(block, w, token_at(block, named, w.at)) {

@@ -8,7 +8,11 @@ use Rattle.stream.proofs.walking.survey.Goals as goal
 use Rattle.stream.proofs.walking.survey.Goals.{After-step}
 
 pub loop-w-init : goal.loop-w-init
-loop-w-init c = let a = c.args in walked_start a.block.now a.named (omega arith) a.start
+loop-w-init c =
+    let a = c.args in
+    let zero = c.default.ensures.1 in
+    let rest = zero.1.1.1.1 in
+    rw (zero.0, zero.1.1.0, zero.1.1.1.0, rest.0, rest.1.0, rest.1.1) (walked_start a.block.now a.named (omega arith) a.start)
 
 -- the token at hand
 stepped :
