@@ -24,7 +24,7 @@ pub fn begin_at<const TESTED: bool>(block: &[u8], at: usize) -> TokenRead
 {
     let from = at + 4;
     let stop = zero_from(block, from);
-    if TESTED && block.len() <= stop {
+    if TESTED && stop == block.len() {
         return TokenRead::Unsound;
     }
     TokenRead::Begin {

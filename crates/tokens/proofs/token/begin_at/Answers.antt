@@ -7,10 +7,6 @@ use Rattle.tokens.specs.answers.Read.{begin_read}
 use Rattle.tokens.proofs.ZeroLaws.{zero_not_before, zero_inside}
 use Rattle.tokens.proofs.token.begin_at.Goals as goal
 
-pub returns-then-block-stop : goal.returns-then-block-stop
-unfolding begin_read
-returns-then-block-stop g c = grind (arith, common_steps)
-
 pub overflow_sub-result : goal.overflow_sub-result
 overflow_sub-result g c = let a = c.args in omega (arith, zero_not_before a.block.now (a.at + 4), c.zero_from-stop.ensures)
 
@@ -22,4 +18,10 @@ aligned-requires g c = let a = c.args in omega (arith, c.zero_from-stop.ensures,
 
 pub returns : goal.returns
 unfolding begin_read
-returns g c = grind (arith, common_steps)
+returns g c =
+    let a = c.args in
+    grind (arith, common_steps, zero_inside a.block.now (a.at + 4) c.requires)
+
+pub returns-then-stop-block : goal.returns-then-stop-block
+unfolding begin_read
+returns-then-stop-block g c = grind (arith, common_steps)
