@@ -9,6 +9,7 @@ pub use walking::survey;
 
 // Where a walk stands: the next token's offset, how many nodes are open, whether a property (or, outside every node, the root) may
 // come; 1 inside a child of the root named `cpus`, else 0; how many of these there are, where the last began, and what they hold.
+// `inside` is a number, as the specs have it: it is added up.
 #[derive(Clone, Copy, Default)]
 pub struct Walk {
     pub at: usize,

@@ -17,6 +17,7 @@ pub fn survey(block: &[u8], named: usize, start: usize) -> Result<Walk, usize>
         fresh: true,
         ..Walk::default()
     };
+    // A `while`: the next place comes from the token.
     while w.at < block.len() {
         match step(block, w, token_at(block, named, w.at)) {
             Next::On(v) => w = v,

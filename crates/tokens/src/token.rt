@@ -9,7 +9,7 @@ use crate::cell::{BEGIN_NODE, END, END_NODE, NOP, PROP};
 use crate::zero::zero_from;
 use tables::{cell_at, is_inside, wide};
 
-// Where the next token stands, behind data that end at a place.
+// Where the next token stands, behind data that end at a place. std has no `next_multiple_of`.
 fn aligned(end: usize) -> usize
     requires { end + 3 < 18446744073709551616 }
     ensures { result ≡ aligned end }
@@ -51,7 +51,8 @@ pub fn property_at<const TESTED: bool>(block: &[u8], named: usize, at: usize) ->
     TokenRead::Property { name, size, next }
 }
 
-// The token at a place. Most tokens are properties, so their cell is tested first.
+// The token at a place.
+// Most tokens are properties, so their cell is tested first. Tests in this order, and no match, since that makes a jump table (cell.rt).
 pub fn token_at(block: &[u8], named: usize, at: usize) -> TokenRead
     ensures { result ≡ token_read block.now named at }
 {
