@@ -20,14 +20,21 @@ fn fill(rt: &impl Input, bytes: &mut [u8]) {
 pub fn word(rt: &impl Input) -> u32 {
     let mut bytes = [0u8; 4];
     fill(rt, &mut bytes);
-    tables::cell_at(&bytes, 0)
+    u32::from_be_bytes(bytes)
 }
 
 // The upper word stands first.
 pub fn mpidr(rt: &impl Input) -> u64 {
     let upper = word(rt);
     let lower = word(rt);
-    upper as u64 * 4294967296 + lower as u64
+    (upper as u64) << 32 | lower as u64
+}
+
+// How many elements of a table are read: those that follow, as far as there is room.
+pub fn count(rt: &impl Input, room: usize) -> usize
+    ensures { result ≤ room }
+{
+    room.min(word(rt) as usize)
 }
 
 // Fills the start of a table, and gives how many words it has put there.
@@ -35,11 +42,9 @@ pub fn words(rt: &impl Input, table: &mut [u32]) -> usize
     ensures within { result ≤ length table.new }
     ensures whole { result ≡ length (take result table.new) }
 {
-    let count = laws::at_most(word(rt) as usize, table.len());
-    let mut i: usize = 0;
-    while i < count {
-        table[i] = word(rt);
-        i += 1;
+    let count = count(rt, table.len());
+    for word in &mut table[..count] {
+        *word = self::word(rt);
     }
     count
 }
@@ -49,7 +54,7 @@ pub fn bytes(rt: &impl Input, table: &mut [u8]) -> usize
     ensures within { result ≤ length table.new }
     ensures whole { result ≡ length (take result table.new) }
 {
-    let count = laws::at_most(word(rt) as usize, table.len());
+    let count = count(rt, table.len());
     fill(rt, &mut table[..count]);
     count
 }

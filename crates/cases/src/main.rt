@@ -8,8 +8,8 @@ mod boards;
 mod input;
 mod lists;
 mod say;
-mod slots;
 
+use boards::Asked;
 use std::io;
 
 const BOARD: u32 = 0;
@@ -23,26 +23,21 @@ fn name(rt: &(impl Input + Print)) -> io::Result<()> {
     let mut bytes = [0u8; 96];
     let count = input::bytes(rt, &mut bytes);
     let name = names::name_of(&bytes[..count]);
-    say::told(rt, cpumap::kind_number(name) as u64)?;
-    say::told(rt, cpumap::topology_number(name) as u64)
+    say::number(rt, cpumap::kind_number(name) as u64)?;
+    say::number(rt, cpumap::topology_number(name) as u64)
 }
 
 // The first word is the number of cases, and the first of each case is its kind.
 fn main(rt: HostRuntime) -> io::Result<()> {
-    let mut left = input::word(&rt);
-    say::told(&rt, left as u64)?;
-    while left > 0 {
-        let kind = input::word(&rt);
-        if kind == BOARD {
-            boards::board(&rt)?;
-        } else if kind == LIST {
-            lists::list(&rt)?;
-        } else if kind == SLOTS {
-            slots::board(&rt)?;
-        } else {
-            name(&rt)?;
+    let count = input::word(&rt);
+    say::number(&rt, count as u64)?;
+    for _ in 0..count {
+        match input::word(&rt) {
+            BOARD => boards::board(&rt, Asked::Rows)?,
+            LIST => lists::list(&rt)?,
+            SLOTS => boards::board(&rt, Asked::Slots)?,
+            _ => name(&rt)?,
         }
-        left -= 1;
     }
     Ok(())
 }

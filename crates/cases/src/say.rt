@@ -2,10 +2,36 @@
 // Writing to standard output.
 use crate::input;
 use affinity::Hash;
+use laws::Refusal;
+use laws::limits::NO_PROPERTY;
 use std::io;
 
+// The hash that is told where a rule is broken.
+pub const NO_HASH: Hash = Hash { mask: 0, shifts: [0; 4], bits: 0 };
+
+// What is told of an answer, whatever is found where no rule is broken.
+#[derive(Clone, Copy)]
+pub struct Told {
+    pub number: u32,
+    pub place: usize,
+    pub second: usize,
+}
+
+impl<T: Drop> From<Result<T, Refusal>> for Told {
+    fn from(answer: Result<T, Refusal>) -> Told {
+        match answer {
+            Ok(_) => Told { number: 0, place: 0, second: NO_PROPERTY },
+            Err(refusal) => Told {
+                number: refusal.rule.number(),
+                place: refusal.place,
+                second: refusal.property.unwrap_or(NO_PROPERTY),
+            },
+        }
+    }
+}
+
 // A number, and the next text of standard input after it.
-pub fn told(rt: &(impl Input + Print), n: u64) -> io::Result<()> {
+pub fn number(rt: &(impl Input + Print), n: u64) -> io::Result<()> {
     let mut text = [0u8; 96];
     let count = input::bytes(rt, &mut text);
     print!(rt; "{n}")?;
@@ -13,27 +39,28 @@ pub fn told(rt: &(impl Input + Print), n: u64) -> io::Result<()> {
 }
 
 pub fn words(rt: &(impl Input + Print), words: &[u32]) -> io::Result<()> {
-    let mut i: usize = 0;
-    while i < words.len() {
-        told(rt, words[i] as u64)?;
-        i += 1;
+    for word in words {
+        number(rt, *word as u64)?;
     }
     Ok(())
+}
+
+// The number of the rule that is broken, and its place.
+pub fn rule(rt: &(impl Input + Print), told: Told) -> io::Result<()> {
+    number(rt, told.number as u64)?;
+    number(rt, told.place as u64)
 }
 
 // An answer; its third number is a count or a slot.
 pub fn answer(
     rt: &(impl Input + Print),
-    number: u32,
-    place: usize,
+    told: Told,
     third: usize,
     hash: Hash,
 ) -> io::Result<()> {
-    let shifts = hash.shifts;
-    told(rt, number as u64)?;
-    told(rt, place as u64)?;
-    told(rt, third as u64)?;
-    told(rt, hash.mask)?;
-    words(rt, &shifts)?;
-    told(rt, hash.bits as u64)
+    rule(rt, told)?;
+    number(rt, third as u64)?;
+    number(rt, hash.mask)?;
+    words(rt, &hash.shifts)?;
+    number(rt, hash.bits as u64)
 }

@@ -1,7 +1,0 @@
--- SPDX-License-Identifier: BSD-2-Clause OR GPL-2.0-or-later
--- The MPIDRs that are still to be read grow fewer.
-use Rattle.std.proofs.Common.{◌-◌}
-use Rattle.cases.proofs.lists.list.Given as goal
-
-abbrev pub decreases-loop-i : goal.decreases-loop-i
-decreases-loop-i g l = l.count - l.i
