@@ -1,10 +1,16 @@
 // SPDX-License-Identifier: BSD-2-Clause OR GPL-2.0-or-later
 // Boards, with a table of slots or without.
+use crate::say::Told;
 use crate::{input, say};
-use board::{read_slots, read_tables};
 use demands::BoardRows;
 use std::io;
 use tables::Tables;
+
+// Room for a record, a row or a slot more than the limits allow.
+const ROOM: usize = 20485;
+
+// Room for a byte more than the limit allows.
+const POOL_ROOM: usize = 65537;
 
 // What is asked of a board: its rows alone, or a table of slots, too.
 #[derive(Clone, Copy)]
@@ -13,21 +19,15 @@ pub enum Asked {
     Slots,
 }
 
-// Room for a record, a row or a slot more than the limits allow.
-fn room() -> [u32; 20485] {
-    [0; 20485]
-}
-
 // The node words, the property words and the pool, and what the row buffer holds before the board is read.
 pub fn board(rt: &(impl Input + Print), asked: Asked) -> io::Result<()> {
-    let mut nodes = room();
+    let mut nodes = [0u32; ROOM];
     let n = input::words(rt, &mut nodes);
-    let mut props = room();
+    let mut props = [0u32; ROOM];
     let p = input::words(rt, &mut props);
-    // Room for a byte more than the limit allows.
-    let mut pool = [0u8; 65537];
+    let mut pool = [0u8; POOL_ROOM];
     let b = input::bytes(rt, &mut pool);
-    let mut rows = room();
+    let mut rows = [0u32; ROOM];
     let r = input::words(rt, &mut rows);
     let tables = Tables {
         nodes: &nodes[..n],
@@ -45,18 +45,21 @@ fn read(
     rows: &mut [u32],
     asked: Asked,
 ) -> io::Result<()> {
-    let mut table = room();
+    let mut table = [0u32; ROOM];
     let t = match asked {
         Asked::Rows => 0,
         Asked::Slots => input::words(rt, &mut table),
     };
     let width = input::word(rt);
     let answer = match asked {
-        Asked::Rows => read_tables(width, tables, rows),
-        Asked::Slots => read_slots(width, tables, rows, &mut table[..t]),
+        Asked::Rows => board::read_tables(width, tables, rows),
+        Asked::Slots => board::read_slots(width, tables, rows, &mut table[..t]),
     };
-    let found = answer.unwrap_or(BoardRows { count: 0, hash: say::NO_HASH });
-    let told = say::Told::from(answer);
+    let told = Told::from(answer);
+    let found = answer.unwrap_or(BoardRows {
+        count: 0,
+        hash: say::NO_HASH,
+    });
     say::answer(rt, told, found.count, found.hash)?;
     say::number(rt, told.second as u64)?;
     say::words(rt, rows)?;

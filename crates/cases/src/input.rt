@@ -43,8 +43,8 @@ pub fn words(rt: &impl Input, table: &mut [u32]) -> usize
     ensures whole { result ≡ length (take result table.new) }
 {
     let count = count(rt, table.len());
-    for word in &mut table[..count] {
-        *word = self::word(rt);
+    for cell in &mut table[..count] {
+        *cell = word(rt);
     }
     count
 }

@@ -21,5 +21,10 @@ fn ask(rt: &(impl Input + Print), mpidr: u64, list: &[u64]) -> io::Result<()> {
     let hash = affinity::list_hash(list);
     say::rule(rt, hash.into())?;
     let slot = affinity::list_slot(mpidr, list);
-    say::answer(rt, slot.into(), slot.unwrap_or(0) as usize, hash.unwrap_or(say::NO_HASH))
+    say::answer(
+        rt,
+        slot.into(),
+        slot.unwrap_or(0) as usize,
+        hash.unwrap_or(say::NO_HASH),
+    )
 }

@@ -1,15 +1,22 @@
 // SPDX-License-Identifier: BSD-2-Clause OR GPL-2.0-or-later
 // Writing to standard output.
+ghost use Rattle.std.specs.Prelude.{◌≡◌};
+ghost use Rattle.laws.specs.answers.Told.{told_in};
+
 use crate::input;
 use affinity::Hash;
 use laws::Refusal;
 use laws::limits::NO_PROPERTY;
 use std::io;
 
-// The hash that is told where a rule is broken.
-pub const NO_HASH: Hash = Hash { mask: 0, shifts: [0; 4], bits: 0 };
+// The hash that is told where there is none.
+pub const NO_HASH: Hash = Hash {
+    mask: 0,
+    shifts: [0; 4],
+    bits: 0,
+};
 
-// What is told of an answer, whatever is found where no rule is broken.
+// What is told of an answer, whatever it holds where no rule is broken: the rule's number and place, and the property's number.
 #[derive(Clone, Copy)]
 pub struct Told {
     pub number: u32,
@@ -18,9 +25,15 @@ pub struct Told {
 }
 
 impl<T: Drop> From<Result<T, Refusal>> for Told {
+    ghost from_gives = { λ answer told. record { number = told.number; place = told.place; second = told.second } ≡ told_in answer };
+
     fn from(answer: Result<T, Refusal>) -> Told {
         match answer {
-            Ok(_) => Told { number: 0, place: 0, second: NO_PROPERTY },
+            Ok(_) => Told {
+                number: 0,
+                place: 0,
+                second: NO_PROPERTY,
+            },
             Err(refusal) => Told {
                 number: refusal.rule.number(),
                 place: refusal.place,
@@ -45,19 +58,14 @@ pub fn words(rt: &(impl Input + Print), words: &[u32]) -> io::Result<()> {
     Ok(())
 }
 
-// The number of the rule that is broken, and its place.
+// The number of the rule that is broken, and its place; 0 and 0 where none is.
 pub fn rule(rt: &(impl Input + Print), told: Told) -> io::Result<()> {
     number(rt, told.number as u64)?;
     number(rt, told.place as u64)
 }
 
 // An answer; its third number is a count or a slot.
-pub fn answer(
-    rt: &(impl Input + Print),
-    told: Told,
-    third: usize,
-    hash: Hash,
-) -> io::Result<()> {
+pub fn answer(rt: &(impl Input + Print), told: Told, third: usize, hash: Hash) -> io::Result<()> {
     rule(rt, told)?;
     number(rt, third as u64)?;
     number(rt, hash.mask)?;
