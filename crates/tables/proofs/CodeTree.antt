@@ -4,16 +4,23 @@ use Rattle.std.specs.Prelude.{Some}
 use mathlib.Core.Path.{◌≡◌, refl, sym, ap, ◌∙◌}
 use mathlib.Core.Bool.{Bool, true, false, cond}
 use mathlib.Core.List.{List}
-use Prim.Native.Nat.{ℕ, ◌≤◌, ◌<◌}
+use Prim.Native.Nat.{ℕ, ◌+◌, ◌*◌, ◌≤◌, ◌<◌}
 use native.Mathlib.Omega.{arith}
 use lib.Dec.{eqb}
+use lib.ListN.{get_or}
 use borrow.Author.Tests.{ne_eqb, eqb-true, eqb-false}
+use Rattle.tables.specs.facts.Board.{parent_word}
 use Rattle.tables.specs.answers.Tree.{parent_of, is_below}
 use Rattle.tables.specs.steps.Tree.{is_at_or_below}
 use Rattle.tables.specs.facts.Tree.{Ancestor}
+use Rattle.tables.proofs.CodePool.{word_zero}
 use Rattle.tables.proofs.TreeLaws.{parent_is, below_ancestor, below_here, below_parent}
 
 module _ (nodes : List ℕ) where
+  -- the parent word compared, as field 0
+  pub word_test : (p i w : ℕ) {r : Bool} → w ≡ get_or nodes (3 * i + 0) 0 → r ≡ eqb w p → eqb (parent_word nodes i) p ≡ r
+  word_test p i w e t = ap (λ (x : ℕ). eqb x p) (sym (e ∙ word_zero nodes (3 * i))) ∙ sym t
+
   -- an ancestor's number is smaller
   ancestor_less : {a i : ℕ} → Ancestor nodes a i → a < i
   ancestor_less (Ancestor.parent h) = h.earlier

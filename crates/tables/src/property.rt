@@ -5,21 +5,13 @@ ghost use Rattle.laws.specs.answers.Told.{second_of};
 ghost use Rattle.tables.specs.facts.Property.{found_at};
 ghost use Rattle.tables.specs.answers.Lookup.{record_of};
 
-use crate::words::{prop_word, wide};
 use crate::Found;
+use crate::words::prop_word;
 
-// Property record k as it is found. The words of a whole record are read at once.
+// Property record k as it is found.
 pub fn found_at(props: &[u32], k: usize) -> Found
     ensures { result ≡ found_at props.now k }
 {
-    if k < props.len() / 5 {
-        let at = 5 * k;
-        return Found {
-            number: k,
-            offset: wide(props[at + 3]),
-            len: wide(props[at + 4]),
-        };
-    }
     Found {
         number: k,
         offset: prop_word(props, k, 3),
@@ -32,8 +24,5 @@ pub fn record_of(found: Option<Found>) -> Option<usize>
     ensures record { second_of result ≡ record_of found }
     ensures number { result ≡ option_map (λ property. property.number) found }
 {
-    let Lookup::At(property) = found else {
-        return NO_PROPERTY;
-    };
-    property.number
+    found.map(|property| property.number)
 }

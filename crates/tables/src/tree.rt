@@ -15,26 +15,17 @@ pub fn parent_of(nodes: &[u32], i: usize) -> Option<usize>
     ensures { result ≡ parent_of nodes.now i }
 {
     if nodes.len() / 3 <= i {
-        return Parent::Top;
+        return None;
     }
     let word = wide(nodes[3 * i]);
-    if i <= word {
-        return Parent::Top;
-    }
-    Parent::Record(word)
+    (word < i).then_some(word)
 }
 
 // Whether record i is a child of record p.
 pub fn is_child(nodes: &[u32], p: usize, i: usize) -> bool
     ensures { result ≡ is_child nodes.now p i }
 {
-    if nodes.len() / 3 <= i {
-        return false;
-    }
-    if node_word(nodes, i, 0) != p {
-        return false;
-    }
-    p < i
+    i < nodes.len() / 3 && node_word(nodes, i, 0) == p && p < i
 }
 
 // Whether record p is record a or below it. Ancestors have smaller numbers: at a record not after a the search ends.
@@ -44,8 +35,7 @@ fn reaches(nodes: &[u32], p: usize, a: usize) -> bool
     if p <= a {
         return p == a;
     }
-    let parent = parent_of(nodes, p);
-    let Parent::Record(q) = parent else {
+    let Some(q) = parent_of(nodes, p) else {
         return false;
     };
     reaches(nodes, q, a)
@@ -55,13 +45,9 @@ fn reaches(nodes: &[u32], p: usize, a: usize) -> bool
 pub fn is_below(nodes: &[u32], i: usize, a: usize) -> bool
     ensures { result ≡ is_below nodes.now i a }
 {
-    let parent = parent_of(nodes, i);
-    let Parent::Record(p) = parent else {
+    let Some(p) = parent_of(nodes, i) else {
         return false;
     };
-    if p <= a {
-        return p == a;
-    }
     reaches(nodes, p, a)
 }
 
@@ -70,5 +56,7 @@ pub fn name_is(tables: &Tables, i: usize, bytes: &[u8]) -> bool
     ensures { let table = tables.now.nodes.now in
         result ≡ range_is tables.now.pool.now (name_offset table i) (name_length table i) bytes.now }
 {
-    range_is(pool, node_word(nodes, i, 1), node_word(nodes, i, 2), bytes)
+    let start = node_word(tables.nodes, i, 1);
+    let len = node_word(tables.nodes, i, 2);
+    range_is(tables.pool, start, len, bytes)
 }
