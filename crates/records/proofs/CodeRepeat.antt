@@ -3,7 +3,7 @@
 use mathlib.Core.Path.{◌≡◌, refl, sym, ap₂, ◌∙◌}
 use mathlib.Core.Bool.{Bool, true, false, cond}
 use mathlib.Core.List.{List}
-use Prim.Native.Nat.{ℕ, ◌+◌, ◌-◌, ◌*◌, ◌/◌, ◌≤◌, ◌<◌}
+use Prim.Native.Nat.{ℕ, ◌+◌, ◌-◌, ◌≤◌, ◌<◌}
 use native.Mathlib.Omega.{arith}
 use lib.Dec.{ltb, leb, eqb}
 use lib.ListN.{length}
@@ -55,13 +55,13 @@ module _ (count : ℕ) (props pool : List ℕ) where
   fault_seven k h = rw h
 
   pub fault_eight :
-      (k at : ℕ) →
+      (k j : ℕ) →
       sound_property count props (length pool) k ≡ true →
-      at < 5 * k →
-      same_property props pool k (at / 5) ≡ true →
+      j < k →
+      same_property props pool k j ≡ true →
       8 ≡ property_fault count props pool k
   unfolding property_fault
-  fault_eight k at h lt e = rw (h, any_at (same_property props pool k) (at / 5) k (omega arith) e)
+  fault_eight k j h lt e = rw (h, any_at (same_property props pool k) j k lt e)
 
   pub fault_none :
       (k : ℕ) →
@@ -80,18 +80,17 @@ module _ (count : ℕ) (props pool : List ℕ) where
 
   -- with no fault below k, the test of an earlier property by the node and the name of property k, and its result r
   pub same_name :
-      (k at : ℕ) {node start len : ℕ} {r : Bool} →
+      (k j : ℕ) {node start len : ℕ} {r : Bool} →
       first_fault (property_fault count props pool) k ≡ clear →
-      at < 5 * k →
+      j < k →
       node ≡ prop_node props k →
       start ≡ key_offset props k →
       len ≡ key_length props k →
-      is_property props pool node (range pool start (start + len - start)) (at / 5) ≡ r →
-      same_property props pool k (at / 5) ≡ r
+      is_property props pool node (range pool start (start + len - start)) j ≡ r →
+      same_property props pool k j ≡ r
   unfolding is_property range_is same_property
-  same_name k at {node} {start} {len} none lt n s l test =
-      let j = at / 5 in
-      let inside = sound_inside j (sound_clear j (below_clear (property_fault count props pool) k none j (omega arith))) in
+  same_name k j {node} {start} {len} none lt n s l test =
+      let inside = sound_inside j (sound_clear j (below_clear (property_fault count props pool) k none j lt)) in
       let size : start + len - start ≡ len = omega arith in
       sym
       (ap₂ (λ (x : ℕ) (name : List ℕ). cond (eqb (prop_node props j) x) (same_list (range pool (key_offset props j) (key_length props j)) name) false)

@@ -9,11 +9,5 @@ use tables::is_inside;
 pub fn sound_name(bytes: usize, most: usize, offset: usize, len: usize) -> bool
     ensures { result ≡ sound_name bytes most offset len }
 {
-    if len == 0 {
-        return false;
-    }
-    if most < len {
-        return false;
-    }
-    is_inside(bytes, offset, len)
+    0 < len && len <= most && is_inside(bytes, offset, len)
 }

@@ -20,10 +20,7 @@ fn sound_parent(nodes: &[u32], i: usize) -> bool
         return parent == NO_PARENT;
     }
     let before = i - 1;
-    if parent == before {
-        return true;
-    }
-    is_below(nodes, before, parent)
+    parent == before || is_below(nodes, before, parent)
 }
 
 // The smaller of 5 and 6 that record i breaks.

@@ -16,10 +16,7 @@ pub fn start_of(starts: &mut [u16], node: usize, k: usize) -> usize
     ensures starts_after { starts.new ≡ set starts.old (place_of node) result }
 {
     let at = node % PLACES;
-    let first = starts[at] as usize;
-    if first <= k {
-        return first;
-    }
-    starts[at] = k as u16;
-    k
+    let start = k.min(usize::from(starts[at]));
+    starts[at] = start as u16;
+    start
 }

@@ -1,12 +1,22 @@
 // SPDX-License-Identifier: BSD-2-Clause OR GPL-2.0-or-later
-// A property record that was found, and its number.
+// Property records: whether one is looked for, what is found of it, and its number.
 ghost use Rattle.std.specs.Prelude.{◌≡◌, option_map};
 ghost use Rattle.laws.specs.answers.Told.{second_of};
 ghost use Rattle.tables.specs.facts.Property.{found_at};
-ghost use Rattle.tables.specs.answers.Lookup.{record_of};
+ghost use Rattle.tables.specs.answers.Lookup.{is_property, record_of};
 
 use crate::Found;
+use crate::pool::range_is;
 use crate::words::prop_word;
+
+// Whether property record k is the node's and has the name `key`.
+pub fn is_property(props: &[u32], pool: &[u8], node: usize, key: &[u8], k: usize) -> bool
+    ensures { result ≡ is_property props.now pool.now node key.now k }
+{
+    let start = prop_word(props, k, 1);
+    let len = prop_word(props, k, 2);
+    prop_word(props, k, 0) == node && range_is(pool, start, len, key)
+}
 
 // Property record k as it is found.
 pub fn found_at(props: &[u32], k: usize) -> Found

@@ -24,7 +24,9 @@ later c =
     sound_later _ _ _ c.if-i-eq0.false c.node_word-parent.ensures
 
 pub returns-then-parent-before : goal.returns-then-parent-before
-returns-then-parent-before c = rw (eq-eqb _ _ c.if-parent-before.true) at (later (goal.at.returns-then-parent-before c).Else-i-eq0)
+returns-then-parent-before c =
+    let one = eq-eqb _ _ c.if-parent-before.true in
+    one ∙ rw one at (later (goal.at.returns-then-parent-before c).Else-i-eq0)
 
-pub returns : goal.returns
-returns c = c.is_below.ensures ∙ rw (ne_eqb _ _ c.if-parent-before.false) at (later (goal.at.returns c).Else-i-eq0)
+pub returns-else-parent-before : goal.returns-else-parent-before
+returns-else-parent-before c = c.is_below.ensures ∙ rw (ne_eqb _ _ c.if-parent-before.false) at (later (goal.at.returns-else-parent-before c).Else-i-eq0)
