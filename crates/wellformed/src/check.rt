@@ -7,8 +7,8 @@ ghost use Rattle.wellformed.specs.answers.Check.{table_fault};
 
 use crate::sizes::size_fault;
 use laws::Refusal;
-use tables::Tables;
 use records::{first_node_fault, first_property_fault};
+use tables::Tables;
 
 // The first of rules 1 to 8 that is broken, with its place.
 pub fn table_fault(width: u32, tables: &Tables) -> Result<(), Refusal>

@@ -1,12 +1,12 @@
 // SPDX-License-Identifier: BSD-2-Clause OR GPL-2.0-or-later
-// Rules 1 to 4: the width and the lengths of the tables. 
+// Rules 1 to 4: the width and the lengths of the tables.
 ghost use Rattle.std.specs.Prelude.{◌≡◌};
 ghost use Rattle.laws.specs.answers.Fault.{or_number};
 ghost use Rattle.laws.specs.answers.Told.{number_in};
 ghost use Rattle.wellformed.specs.answers.Check.{width_fault, node_words_fault, prop_words_fault, pool_fault};
 
-use laws::limits::{MAX_NODES, MAX_POOL, MAX_PROPERTIES};
 use laws::Rule;
+use laws::limits::{MAX_NODES, MAX_POOL, MAX_PROPERTIES};
 use tables::boards;
 
 fn width_fault(width: u32) -> Result<(), Rule>
