@@ -3,34 +3,20 @@
 #![tactic(auto)]
 
 ghost use Rattle.std.specs.Prelude.{◌≡◌};
-ghost use Rattle.tables.specs.answers.Lookup.{is_property, lookup};
+ghost use Rattle.tables.specs.answers.Lookup.{lookup};
 ghost use Rattle.lookup.specs.facts.Finds.{FindsIn};
 
-use tables::{Found, found_at, prop_word, range_is};
+use tables::{Found, found_at, is_property};
 
-// Whether property record k is the node's and has the name `key`.
-fn is_property(props: &[u32], pool: &[u8], node: usize, key: &[u8], k: usize) -> bool
-    ensures { result ≡ is_property props.now pool.now node key.now k }
-{
-    if prop_word(props, k, 0) != node {
-        return false;
-    }
-    range_is(pool, prop_word(props, k, 1), prop_word(props, k, 2), key)
-}
-
-// The lowest property record of a node with the name `key`. `left` records are still to be tested.
+// The lowest property record of a node with the name `key`.
 pub fn find_property(props: &[u32], pool: &[u8], node: usize, key: &[u8]) -> Option<Found>
     ensures answer { result ≡ lookup props.now pool.now node key.now }
     ensures finds { FindsIn props.now pool.now node key.now result }
 {
-    let count = props.len() / 5;
-    let mut left = count;
-    while 0 < left {
-        let k = count - left;
+    for k in 0..props.len() / 5 {
         if is_property(props, pool, node, key, k) {
-            return Lookup::At(found_at(props, k));
+            return Some(found_at(props, k));
         }
-        left -= 1;
     }
-    Lookup::Missing
+    None
 }
