@@ -24,12 +24,13 @@ module _ (props table : List ℕ) (i : ℕ) (key : Key) where
   key_none e z = rw (← e, z)
 
   pub key_some :
-      {n : ℕ} →
+      {n w : ℕ} →
       n ≡ key_number key →
-      (get_or table (4 * i + n) 0 ≡ 0 → ⊥) →
-      Some (found_at props (get_or table (4 * i + n) 0 - 1)) ≡ indexed_at props table i key
+      w ≡ get_or table (4 * i + n) 0 →
+      (w ≡ 0 → ⊥) →
+      Some (found_at props (w - 1)) ≡ indexed_at props table i key
   unfolding indexed_at
-  key_some {n} e some = rw (← e) (go (get_or table (4 * i + n) 0) some)
+  key_some {n} {w} e at some = rw (← e, ← at) (go w some)
     where
       go : (w : ℕ) → (w ≡ 0 → ⊥) → Some (found_at props (w - 1)) ≡ lookup_in props w
       go zero ne = absurd (ne refl)

@@ -4,12 +4,12 @@ ghost use Rattle.std.specs.Prelude.{◌≡◌, ◌<◌};
 ghost use Rattle.property_index.specs.facts.Index.{Indexes, FindsBy};
 ghost use Rattle.property_index.specs.answers.Index.{noted, noted_key, indexed, indexed_at, AsLookup};
 
-use crate::name::{key_number, key_of};
+use crate::name::key_of;
 use crate::{INDEX_WORDS, KEYS, Key};
 use laws::limits::{MAX_NODES, MAX_PROPERTIES};
 use tables::{Found, found_at, wide};
 
-// Notes property k at a place where none is noted.
+// Notes property k at a place where none is noted. A word with 0 for none takes half the bytes of an Option of one.
 fn note(table: &mut [u16; INDEX_WORDS], at: usize, k: usize)
     requires { (at < 4096) × (k < 65535) }
     ensures { table.new ≡ noted table.old at k }
@@ -34,9 +34,8 @@ fn note_key(
     if MAX_NODES <= node {
         return;
     }
-    let key = key_of(pool, offset, len);
-    if key < KEYS {
-        note(table, KEYS * node + key, k);
+    if let Some(key) = key_of(pool, offset, len) {
+        note(table, KEYS * node + key.number(), k);
     }
 }
 
@@ -45,19 +44,13 @@ pub fn index_properties(props: &[u32], pool: &[u8], table: &mut [u16; INDEX_WORD
     ensures table { table.new ≡ indexed table.old props.now pool.now }
     ensures index { Indexes table.old props.now pool.now table.new }
 {
-    let n = at_most(props.len() / 5, MAX_PROPERTIES);
-    let mut k: usize = 0;
-    while k < n {
+    let n = (props.len() / 5).min(MAX_PROPERTIES);
+    for k in 0..n {
         let at = 5 * k;
-        note_key(
-            table,
-            pool,
-            wide(props[at]),
-            wide(props[at + 1]),
-            wide(props[at + 2]),
-            k,
-        );
-        k += 1;
+        let node = wide(props[at]);
+        let offset = wide(props[at + 1]);
+        let len = wide(props[at + 2]);
+        note_key(table, pool, node, offset, len, k);
     }
 }
 
@@ -67,13 +60,12 @@ pub fn find_indexed(props: &[u32], table: &[u16; INDEX_WORDS], i: usize, key: Ke
     ensures as_lookup { AsLookup props.now table.now i key result }
     ensures finds { FindsBy props.now table.now i key result }
 {
-    let words = &table[..];
     if MAX_NODES <= i {
-        return Lookup::Missing;
+        return None;
     }
-    let noted = words[KEYS * i + key_number(key)] as usize;
+    let noted = usize::from(table[KEYS * i + key.number()]);
     if noted == 0 {
-        return Lookup::Missing;
+        return None;
     }
-    Lookup::At(found_at(props, noted - 1))
+    Some(found_at(props, noted - 1))
 }

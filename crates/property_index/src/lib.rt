@@ -2,18 +2,29 @@
 // The properties that are looked up for many records: where each stands, noted in one pass over the property table.
 #![tactic(auto)]
 
+ghost use Rattle.std.specs.Prelude.{◌≡◌};
+ghost use Rattle.property_index.specs.facts.Key.{key_number};
+
 mod index;
 mod name;
 
 pub use index::{find_indexed, index_properties};
 
-// The properties that are looked up.
-#[derive(Clone, Copy)]
+// The properties that are looked up, each with its place among the four.
+#[derive(Clone, Copy, PartialEq, Eq)]
 pub enum Key {
-    Reg,
-    Cpu,
-    Phandle,
-    DeviceType,
+    Reg = 0,
+    Cpu = 1,
+    Phandle = 2,
+    DeviceType = 3,
+}
+
+impl Key {
+    fn number(self) -> usize
+        ensures { result ≡ key_number self }
+    {
+        self as usize
+    }
 }
 
 // How many keys there are.

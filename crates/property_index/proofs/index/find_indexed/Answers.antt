@@ -1,14 +1,14 @@
 -- SPDX-License-Identifier: BSD-2-Clause OR GPL-2.0-or-later
 -- `find_indexed` meets its contract: a word of the table tells. Assumes nothing.
 use Rattle.std.specs.Prelude.{Some}
-use mathlib.Core.Path.{ap, ◌∙◌}
+use mathlib.Core.Path.{sym, ap, ◌∙◌}
 use Prim.Native.Nat.{◌<◌}
 use native.Mathlib.Omega.{arith}
 use Rattle.property_index.proofs.IndexLaws.{index_meets}
 use Rattle.property_index.proofs.KeyLaws.{number_lt}
 use Rattle.property_index.proofs.CodeLaws.{key_beyond, key_none, key_some}
 use Rattle.property_index.proofs.index.find_indexed.Goals as goal
-use Rattle.property_index.proofs.index.find_indexed.Goals.{After-key_number}
+use Rattle.property_index.proofs.index.find_indexed.Goals.{After-number}
 
 pub returns-then-i-ge-MAX_NODES : goal.returns-then-i-ge-MAX_NODES
 returns-then-i-ge-MAX_NODES c =
@@ -18,29 +18,29 @@ returns-then-i-ge-MAX_NODES c =
     record { answer = meets.0; as_lookup = meets.1.0; finds = meets.1.1 }
 
 -- the key's number is below 4
-number : (c : After-key_number) → c.key_number.result < 4
+number : (c : After-number) → c.number.result < 4
 number c =
-    rw c.key_number.ensures (number_lt c.args.key)
+    rw c.number.ensures (number_lt c.args.key)
 
-pub overflow_add-noted : goal.overflow_add-noted
-overflow_add-noted c = omega (arith, number (goal.at.overflow_add-noted c).After-key_number)
+pub overflow_add-i : goal.overflow_add-i
+overflow_add-i c = omega (arith, number (goal.at.overflow_add-i c).After-number)
 
-pub offset_bounds-words-i : goal.offset_bounds-words-i
-offset_bounds-words-i c = omega (arith, number (goal.at.offset_bounds-words-i c).After-key_number)
+pub offset_bounds-table-i : goal.offset_bounds-table-i
+offset_bounds-table-i c = omega (arith, number (goal.at.offset_bounds-table-i c).After-number)
 
-pub bounds-words-i : goal.bounds-words-i
-bounds-words-i c = omega (arith, number (goal.at.bounds-words-i c).After-key_number)
+pub bounds-table-i : goal.bounds-table-i
+bounds-table-i c = omega (arith, number (goal.at.bounds-table-i c).After-number)
 
 pub returns-then-noted-eq0 : goal.returns-then-noted-eq0
 returns-then-noted-eq0 c =
     let a = c.args in
-    let none = key_none a.props.now a.table.now a.i a.key c.key_number.ensures c.if-noted-eq0.true in
+    let none = key_none a.props.now a.table.now a.i a.key c.number.ensures (sym c.from-noted.ensures ∙ c.if-noted-eq0.true) in
     let meets = index_meets a.props.now a.table.now a.i a.key none in
     record { answer = meets.0; as_lookup = meets.1.0; finds = meets.1.1 }
 
 pub returns : goal.returns
 returns c =
     let a = c.args in
-    let some = ap Some c.found_at.ensures ∙ key_some a.props.now a.table.now a.i a.key c.key_number.ensures c.if-noted-eq0.false in
+    let some = ap Some c.found_at.ensures ∙ key_some a.props.now a.table.now a.i a.key c.number.ensures c.from-noted.ensures c.if-noted-eq0.false in
     let meets = index_meets a.props.now a.table.now a.i a.key some in
     record { answer = meets.0; as_lookup = meets.1.0; finds = meets.1.1 }

@@ -12,15 +12,14 @@ use Rattle.property_index.proofs.index.index_properties.Goals as goal
 
 pub loop-k-init : goal.loop-k-init
 unfolding indexed_below
-loop-k-init c = (omega arith, refl)
+loop-k-init c = refl
 
 pub loop-k-preserved : goal.loop-k-preserved
 loop-k-preserved c =
-    let loop = c.loop-k in
-    (omega arith, keys_more _ _ _ _ loop.invariant.1 c.wide.ensures c.wide-in-loop-k.ensures c.wide-in-loop-k-2.ensures c.note_key.ensures)
+    keys_more _ _ _ _ c.loop-k.invariant c.wide-node.ensures c.wide-offset.ensures c.wide-len.ensures c.note_key.ensures
 
 pub returns : goal.returns
 returns c =
     let loop = c.loop-k in
-    let all : loop.k ≡ min (prop_count c.args.props.now) max_properties = omega (arith, c.at_most-n.ensures) in
-    rw (loop.invariant.1, all) (record { table = refl; index = blank_indexes _ _ _ })
+    let all : loop.k ≡ min (prop_count c.args.props.now) max_properties = omega arith in
+    rw (loop.invariant, all) (record { table = refl; index = blank_indexes _ _ _ })
