@@ -35,7 +35,7 @@ late Concerns.address_cells = omega arith
 late Concerns.size_cells = omega arith
 
 module _ (b : Board) where
-  tables_plain : Plain (table_fault b)
+  pub tables_plain : Plain (table_fault b)
   unfolding table_fault
   tables_plain =
       else_plain (told (width_fault b.width) 0) _ (told_plain (width_fault b.width) 0)
