@@ -13,9 +13,8 @@ use crate::words::prop_word;
 pub fn is_property(props: &[u32], pool: &[u8], node: usize, key: &[u8], k: usize) -> bool
     ensures { result ≡ is_property props.now pool.now node key.now k }
 {
-    let start = prop_word(props, k, 1);
-    let len = prop_word(props, k, 2);
-    prop_word(props, k, 0) == node && range_is(pool, start, len, key)
+    prop_word(props, k, 0) == node
+        && range_is(pool, prop_word(props, k, 1), prop_word(props, k, 2), key)
 }
 
 // Property record k as it is found.
