@@ -9,7 +9,7 @@ use crate::{INDEX_WORDS, KEYS, Key};
 use laws::limits::{MAX_NODES, MAX_PROPERTIES};
 use tables::{Found, found_at, wide};
 
-// Notes property k at a place where none is noted. A word with 0 for none takes half the bytes of an Option of one.
+// Notes property k at a place where none is noted.
 fn note(table: &mut [u16; INDEX_WORDS], at: usize, k: usize)
     requires { (at < 4096) × (k < 65535) }
     ensures { table.new ≡ noted table.old at k }

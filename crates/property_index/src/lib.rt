@@ -30,5 +30,6 @@ impl Key {
 // How many keys there are.
 const KEYS: usize = 4;
 
-// The words of an index of properties: four for each of 1,024 records.
+// The words of an index of properties: four for each of 1,024 records. Memory is fixed, and an Option of a word takes twice that of a
+// word with 0 for none.
 pub const INDEX_WORDS: usize = 4096;

@@ -6,7 +6,7 @@ ghost use Rattle.records.specs.steps.Starts.{place_of};
 // How many places there are.
 pub const PLACES: usize = 1024;
 
-// What stands where no property is noted.
+// What stands where no property is noted. Memory is fixed, and an Option of a number takes twice that of a number.
 pub const NO_START: u16 = 65535;
 
 // Notes property k of a node, and gives the lowest one noted at the node's place.

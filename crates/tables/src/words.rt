@@ -1,6 +1,6 @@
 // SPDX-License-Identifier: BSD-2-Clause OR GPL-2.0-or-later
 // The words of the node and property records.
-ghost use Rattle.std.specs.Prelude.{◌≡◌, ◌+◌, ◌*◌, ◌<◌, get_or};
+ghost use Rattle.std.specs.Prelude.{◌≡◌, ◌+◌, ◌*◌, get_or};
 
 // A word as an index. A cast: Rust has no From<u32> for usize.
 pub fn wide(word: u32) -> usize
@@ -9,14 +9,10 @@ pub fn wide(word: u32) -> usize
     word as usize
 }
 
-// A word of record i, each of so many words, 0 outside the table. A word of a whole record is read at once.
+// A word of record i, each of so many words, 0 outside the table. A place that would wrap is outside every table, as is the largest.
 fn record_word<const WORDS: usize>(table: &[u32], i: usize, field: usize) -> usize
-    requires { 0 < WORDS }
     ensures { result ≡ get_or table.now (WORDS * i + field) 0 }
 {
-    if i < table.len() / WORDS && field < WORDS {
-        return wide(table[WORDS * i + field]);
-    }
     let at = i.saturating_mul(WORDS).saturating_add(field);
     match table.get(at) {
         Some(word) => wide(*word),

@@ -16,7 +16,8 @@ returns-then-is_property c =
     let a = c.args in
     let found =
     ap Some c.found_at.ensures
-    ∙ found_at_lem a.props.now a.pool.now a.node a.key.now _ c.loop-k.invariant (sym c.is_property.ensures ∙ c.if-is_property.true) c.loop-k-test.true in
+    ∙ found_at_lem a.props.now a.pool.now a.node a.key.now _ c.loop-k.invariant
+    (sym c.is_property.ensures ∙ c.if-is_property.true) c.loop-k-test.true in
     let meets = lookup_meets a.props.now a.pool.now a.node a.key.now found in
     record { answer = meets.0; finds = meets.1 }
 

@@ -29,4 +29,5 @@ returns-then-parent-before c =
     one ∙ rw one at (later (goal.at.returns-then-parent-before c).Else-i-eq0)
 
 pub returns-else-parent-before : goal.returns-else-parent-before
-returns-else-parent-before c = c.is_below.ensures ∙ rw (ne_eqb _ _ c.if-parent-before.false) at (later (goal.at.returns-else-parent-before c).Else-i-eq0)
+returns-else-parent-before c =
+    c.is_below.ensures ∙ rw (ne_eqb _ _ c.if-parent-before.false) at (later (goal.at.returns-else-parent-before c).Else-i-eq0)

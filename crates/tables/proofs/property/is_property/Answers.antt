@@ -11,7 +11,8 @@ pub returns-then-prop_word-node : goal.returns-then-prop_word-node
 unfolding is_property
 returns-then-prop_word-node c =
     let node = c.prop_word.ensures ∙ word_zero c.args.props.now (5 * c.args.k) in
-    rw (← node, eq-eqb _ _ c.if-prop_word-node.true) (rw (c.prop_word-then-prop_word-node.ensures, c.prop_word-then-prop_word-node-2.ensures) at c.range_is.ensures)
+    rw (← node, eq-eqb _ _ c.if-prop_word-node.true)
+    (rw (c.prop_word-then-prop_word-node.ensures, c.prop_word-then-prop_word-node-2.ensures) at c.range_is.ensures)
 
 pub returns-else-prop_word-node : goal.returns-else-prop_word-node
 unfolding is_property

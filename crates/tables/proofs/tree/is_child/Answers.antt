@@ -22,6 +22,7 @@ unfolding is_child
 returns-else-node_word-p c =
     elim c.if-i-nodes.branch [
       | then-i-nodes w ↦
-          c.if-node_word-p.false ∙ rw (lt-ltb _ _ w.if-i-nodes.true, word_test c.args.nodes.now _ _ _ w.node_word.ensures w.value-is ∙ c.if-node_word-p.false)
+          c.if-node_word-p.false
+          ∙ rw (lt-ltb _ _ w.if-i-nodes.true, word_test c.args.nodes.now _ _ _ w.node_word.ensures w.value-is ∙ c.if-node_word-p.false)
       | else-i-nodes w ↦ c.if-node_word-p.false ∙ rw (le-ltb _ _ w.if-i-nodes.false)
     ]
