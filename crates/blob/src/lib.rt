@@ -8,23 +8,22 @@ mod ends;
 mod fill;
 mod put;
 
-ghost use Rattle.std.specs.Prelude.{◌≡◌, ◌<◌, ◌^◌, None, IfErr, length};
+ghost use Rattle.std.specs.Prelude.{◌≡◌, ◌<◌, ◌^◌, IfErr, length};
 ghost use Rattle.flat.specs.answers.Told.{blob_told};
 ghost use Rattle.flat.specs.facts.Reading.{BlobReading};
 ghost use Rattle.flat.specs.answers.Answer.{blob_answer, nodes_after, props_after};
 
 use blocks::read_blocks;
 use flat::BlobCounts;
-use laws::Refusal;
+use laws::Broken;
 
 // Reads a blob. The blob is the pool of the records: offsets count from its start.
-pub fn read_blob(blob: &[u8], nodes: &mut [u32], props: &mut [u32]) -> Result<BlobCounts, Refusal>
+pub fn read_blob(blob: &[u8], nodes: &mut [u32], props: &mut [u32]) -> Result<BlobCounts, Broken>
     ensures answer { blob_told result ≡ blob_answer blob.now (length nodes.old) (length props.old) }
     ensures nodes { nodes.new ≡ nodes_after blob.now nodes.old (length props.old) }
     ensures props { props.new ≡ props_after blob.now (length nodes.old) props.old }
     ensures reading { BlobReading blob.now nodes.old props.old (blob_told result) nodes.new props.new }
-    ensures place { IfErr result (λ refusal. refusal.place < 2 ^ 32) }
-    ensures plain { IfErr result (λ refusal. refusal.property ≡ None) }
+    ensures place { IfErr result (λ broken. broken.place < 2 ^ 32) }
 {
     header::header_fault(blob)?;
     header::blocks_fault(blob)?;

@@ -1,13 +1,13 @@
 // SPDX-License-Identifier: BSD-2-Clause OR GPL-2.0-or-later
 // Finding the map: rules 15 and 16.
 ghost use Rattle.std.specs.Prelude.{◌≡◌, ◌<◌, IfSome, unwrap_or};
-ghost use Rattle.laws.specs.answers.Told.{number_in, told_in};
+ghost use Rattle.laws.specs.answers.Told.{number_in, broken_in};
 ghost use Rattle.cpumap.specs.answers.Told.{map_told};
 ghost use Rattle.laws.specs.answers.Fault.{first_fault};
 ghost use Rattle.tables.specs.facts.Board.{node_count};
 ghost use Rattle.cpumap.specs.answers.Find.{is_map_name, is_map, map_of, second_map_fault, map_scan};
 
-use laws::{Refusal, Rule};
+use laws::{Broken, Rule};
 use tables::{Tables, binding, cell_at, is_child, node_word};
 
 // Whether record i is named `cpu-map`: seven bytes, by the cells at their start and at their end.
@@ -51,21 +51,21 @@ fn second_map_fault(tables: &Tables, map: usize, i: usize) -> Result<(), Rule>
 }
 
 // The lowest record that breaks rule 16.
-fn second_map(tables: &Tables, map: usize) -> Result<(), Refusal>
+fn second_map(tables: &Tables, map: usize) -> Result<(), Broken>
     requires { map ≡ map_of tables.now.nodes.now tables.now.pool.now }
     ensures { let table = tables.now.nodes.now in
-        told_in result ≡ first_fault (second_map_fault table tables.now.pool.now) (node_count table) }
+        broken_in result ≡ first_fault (second_map_fault table tables.now.pool.now) (node_count table) }
 {
     for i in 0..tables.nodes.len() / 3 {
         if let Err(rule) = second_map_fault(tables, map, i) {
-            return Err(rule.at(i));
+            return Err(rule.broken_at(i));
         }
     }
     Ok(())
 }
 
 // The map's record, or the first of rules 15 and 16 that is broken.
-pub fn find_map(tables: &Tables) -> Result<usize, Refusal>
+pub fn find_map(tables: &Tables) -> Result<usize, Broken>
     ensures { map_told result ≡ map_scan tables.now.nodes.now tables.now.pool.now }
 {
     let map = lowest_map(tables).ok_or(Rule::CpuMapMissing)?;

@@ -6,5 +6,5 @@ pub mod limits;
 mod rules;
 mod search;
 
-pub use rules::{Refusal, Rule};
+pub use rules::{Broken, Refusal, Rule};
 pub use search::{is_among, place_in};

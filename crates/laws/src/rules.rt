@@ -126,6 +126,13 @@ pub enum Rule {
     AnswerSpace = 49,
 }
 
+// A rule that is broken, and where.
+#[derive(Clone, Copy, PartialEq, Eq)]
+pub struct Broken {
+    pub rule: Rule,
+    pub place: usize,
+}
+
 // A rule that is broken: where, and the record of the property that is told of, if any is.
 #[derive(Clone, Copy, PartialEq, Eq)]
 pub struct Refusal {
@@ -140,6 +147,13 @@ impl Rule {
         ensures { result ≡ number_of self }
     {
         self as u32
+    }
+
+    // The rule broken at a place.
+    pub fn broken_at(self, place: usize) -> Broken
+        ensures { result ≡ record { rule = self; place = place } }
+    {
+        Broken { rule: self, place }
     }
 
     // The rule broken at a place, told of no property.
@@ -160,5 +174,23 @@ impl From<Rule> for Refusal {
 
     fn from(rule: Rule) -> Refusal {
         rule.at(0)
+    }
+}
+
+// A rule that what was lent breaks as a whole: its place is 0.
+impl From<Rule> for Broken {
+    ghost from_gives = { λ rule broken. broken ≡ record { rule = rule; place = 0 } };
+
+    fn from(rule: Rule) -> Broken {
+        rule.broken_at(0)
+    }
+}
+
+// What is told of no property.
+impl From<Broken> for Refusal {
+    ghost from_gives = { λ broken refusal. refusal ≡ record { rule = broken.rule; place = broken.place; property = None } };
+
+    fn from(broken: Broken) -> Refusal {
+        broken.rule.at(broken.place)
     }
 }

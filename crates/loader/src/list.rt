@@ -1,7 +1,7 @@
 // SPDX-License-Identifier: BSD-2-Clause OR GPL-2.0-or-later
 // A list of MPIDRs in bytes.
-ghost use Rattle.std.specs.Prelude.{◌≡◌, ◌/◌, ◌≤◌, None, IfErr, OnOk, length};
-ghost use Rattle.laws.specs.answers.Told.{told_in};
+ghost use Rattle.std.specs.Prelude.{◌≡◌, ◌/◌, ◌≤◌, OnOk, length};
+ghost use Rattle.laws.specs.answers.Told.{broken_in};
 ghost use Rattle.affinity.specs.answers.Told.{slot_told};
 ghost use Rattle.laws.specs.answers.Listed.{laid_over};
 ghost use Rattle.wire.specs.facts.Bytes.{number_size, numbers_in};
@@ -11,21 +11,20 @@ ghost use Rattle.loader.specs.answers.List.{byte_slot};
 
 use affinity::is_affine;
 use laws::limits::MAX_CPUS;
-use laws::{Refusal, Rule};
+use laws::{Broken, Rule};
 use wire::{NUMBER_BYTES, number_at};
 
 // Reads the MPIDRs of a list, as far as the first one with a bit that is no affinity bit. That test keeps the loop from being a mere copy, which
 // the compiler would turn into a call of memcpy.
-fn read_mpidrs(list: &[u8], mpidrs: &mut [u64]) -> Result<(), Refusal>
+fn read_mpidrs(list: &[u8], mpidrs: &mut [u64]) -> Result<(), Broken>
     requires { length list.now / number_size ≤ length mpidrs.old }
-    ensures fault { told_in result ≡ first_outside (numbers_in list.now) }
+    ensures fault { broken_in result ≡ first_outside (numbers_in list.now) }
     ensures mpidrs { OnOk result (mpidrs.new ≡ laid_over (numbers_in list.now) mpidrs.old) }
-    ensures plain { IfErr result (λ refusal. refusal.property ≡ None) }
 {
     for k in 0..list.len() / NUMBER_BYTES {
         let mpidr = number_at(list, NUMBER_BYTES * k);
         if !is_affine(mpidr) {
-            return Err(Rule::ListMpidr.at(k));
+            return Err(Rule::ListMpidr.broken_at(k));
         }
         mpidrs[k] = mpidr;
     }
@@ -33,14 +32,13 @@ fn read_mpidrs(list: &[u8], mpidrs: &mut [u64]) -> Result<(), Refusal>
 }
 
 // The slot of one MPIDR in a list of MPIDRs, eight bytes each.
-pub fn byte_slot(mpidr: u64, list: &[u8]) -> Result<u32, Refusal>
+pub fn byte_slot(mpidr: u64, list: &[u8]) -> Result<u32, Broken>
     ensures answer { slot_told result ≡ byte_slot mpidr list.now }
     ensures demands { ByteSlotDemands list.now mpidr (slot_told result) }
-    ensures plain { IfErr result (λ refusal. refusal.property ≡ None) }
 {
     let count = list.len() / NUMBER_BYTES;
     if list.len() % NUMBER_BYTES != 0 || MAX_CPUS < count {
-        return Err(Rule::ListLength.at(0));
+        return Err(Rule::ListLength.broken_at(0));
     }
     let mut mpidrs = [0u64; MAX_CPUS];
     read_mpidrs(list, &mut mpidrs)?;

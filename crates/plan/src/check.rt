@@ -1,19 +1,18 @@
 // SPDX-License-Identifier: BSD-2-Clause OR GPL-2.0-or-later
 // Whether a plan is one for a list: its positions rise in the affinity bits, and no two different MPIDRs agree at all of them.
-ghost use Rattle.std.specs.Prelude.{◌≡◌, ◌<◌, None, IfErr, length};
-ghost use Rattle.laws.specs.answers.Told.{number_in, told_in};
+ghost use Rattle.std.specs.Prelude.{◌≡◌, ◌<◌, length};
+ghost use Rattle.laws.specs.answers.Told.{number_in, broken_in};
 ghost use Rattle.plan.specs.facts.Plan.{Positions};
 ghost use Rattle.plan.specs.facts.Rules.{PlanDemands};
 ghost use Rattle.plan.specs.answers.Check.{is_bit, bad_position, bad_positions, keep_of};
 ghost use Rattle.plan.specs.answers.Check.{clash, clashes_at, clashes, plan_number, plan_fault};
 
-use laws::{Refusal, Rule};
+use laws::{Broken, Rule};
 
 // 0, or the first of 28, 29 and 40.
-pub fn check_plan(list: &[u64], positions: &[u32]) -> Result<(), Refusal>
-    ensures answer { told_in result ≡ plan_fault list.now positions.now }
-    ensures demands { PlanDemands list.now positions.now (told_in result) }
-    ensures plain { IfErr result (λ refusal. refusal.property ≡ None) }
+pub fn check_plan(list: &[u64], positions: &[u32]) -> Result<(), Broken>
+    ensures answer { broken_in result ≡ plan_fault list.now positions.now }
+    ensures demands { PlanDemands list.now positions.now (broken_in result) }
 {
     affinity::list_mask(list)?;
     plan_number(list, positions)?;

@@ -1,6 +1,6 @@
 // SPDX-License-Identifier: BSD-2-Clause OR GPL-2.0-or-later
 // The planner: all mask bits, without each that can be dropped, from the lowest up.
-ghost use Rattle.std.specs.Prelude.{◌≡◌, ◌<◌, None, IfErr};
+ghost use Rattle.std.specs.Prelude.{◌≡◌, ◌<◌};
 ghost use Rattle.plan.specs.answers.Told.{plan_told};
 ghost use Rattle.affinity.specs.answers.Mask.{mask_of};
 ghost use Rattle.affinity.specs.facts.Level.{Affine};
@@ -9,16 +9,15 @@ ghost use Rattle.plan.specs.answers.Planner.{dropped, thinned, ones_of, plan_wit
 
 use super::check::clashes;
 use crate::Plan;
-use laws::Refusal;
+use laws::Broken;
 
 // Every affinity bit is below this one.
 const BITS: u32 = 40;
 
 // A plan for a list, from which no position can be dropped.
-pub fn plan_of(list: &[u64]) -> Result<Plan, Refusal>
+pub fn plan_of(list: &[u64]) -> Result<Plan, Broken>
     ensures answer { plan_told result ≡ plan_answer list.now }
     ensures demands { MakeDemands list.now (plan_told result) }
-    ensures plain { IfErr result (λ refusal. refusal.property ≡ None) }
 {
     let mask = affinity::list_mask(list)?;
     Ok(ones_of(thinned(list, mask)))

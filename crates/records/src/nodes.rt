@@ -2,13 +2,13 @@
 // Rules 5 and 6: each node record.
 ghost use Rattle.std.specs.Prelude.{◌≡◌};
 ghost use Rattle.laws.specs.answers.Fault.{first_fault};
-ghost use Rattle.laws.specs.answers.Told.{number_in, told_in};
+ghost use Rattle.laws.specs.answers.Told.{number_in, broken_in};
 ghost use Rattle.tables.specs.facts.Board.{node_count};
 ghost use Rattle.records.specs.answers.Check.{sound_parent, node_fault};
 
 use crate::name::sound_name;
 use laws::limits::{MAX_NODE_NAME, NO_PARENT};
-use laws::{Refusal, Rule};
+use laws::{Broken, Rule};
 use tables::{is_below, node_word};
 
 // Whether the parent of record i is the record before it or an ancestor of that one; record 0 has none.
@@ -41,13 +41,13 @@ fn node_fault(nodes: &[u32], bytes: usize, i: usize) -> Result<(), Rule>
 }
 
 // The lowest record that breaks rule 5 or 6.
-pub fn first_node_fault(nodes: &[u32], bytes: usize) -> Result<(), Refusal>
+pub fn first_node_fault(nodes: &[u32], bytes: usize) -> Result<(), Broken>
     ensures { let table = nodes.now in
-        told_in result ≡ first_fault (node_fault table bytes) (node_count table) }
+        broken_in result ≡ first_fault (node_fault table bytes) (node_count table) }
 {
     for i in 0..nodes.len() / 3 {
         if let Err(rule) = node_fault(nodes, bytes, i) {
-            return Err(rule.at(i));
+            return Err(rule.broken_at(i));
         }
     }
     Ok(())

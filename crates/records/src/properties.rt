@@ -2,14 +2,14 @@
 // Rules 7 and 8: each property.
 ghost use Rattle.std.specs.Prelude.{◌≡◌};
 ghost use Rattle.laws.specs.answers.Fault.{first_fault};
-ghost use Rattle.laws.specs.answers.Told.{told_in};
+ghost use Rattle.laws.specs.answers.Told.{broken_in};
 ghost use Rattle.tables.specs.facts.Board.{prop_count};
 ghost use Rattle.records.specs.answers.Check.{sound_words, property_fault};
 
 use crate::name::sound_name;
 use crate::starts::{NO_START, PLACES, start_of};
 use laws::limits::MAX_PROPERTY_NAME;
-use laws::{Refusal, Rule};
+use laws::{Broken, Rule};
 use tables::{is_inside, is_property, wide};
 
 // Whether a property's words keep rule 7 on a board of `count` node records and a pool of so many bytes.
@@ -28,9 +28,9 @@ fn sound_property(
 }
 
 // The lowest property that breaks rule 7 or repeats an earlier one.
-pub fn first_property_fault(count: usize, props: &[u32], pool: &[u8]) -> Result<(), Refusal>
+pub fn first_property_fault(count: usize, props: &[u32], pool: &[u8]) -> Result<(), Broken>
     ensures { let table = props.now in
-        told_in result ≡ first_fault (property_fault count table pool.now) (prop_count table) }
+        broken_in result ≡ first_fault (property_fault count table pool.now) (prop_count table) }
 {
     let mut starts = [NO_START; PLACES];
     for k in 0..props.len() / 5 {
@@ -41,12 +41,12 @@ pub fn first_property_fault(count: usize, props: &[u32], pool: &[u8]) -> Result<
         let value = wide(props[own + 3]);
         let size = wide(props[own + 4]);
         if !sound_property(count, pool.len(), node, start, len, value, size) {
-            return Err(Rule::PropertyRange.at(k));
+            return Err(Rule::PropertyRange.broken_at(k));
         }
         let name = &pool[start..start + len];
         for j in start_of(&mut starts, node, k)..k {
             if is_property(props, pool, node, name, j) {
-                return Err(Rule::DuplicateProperty.at(k));
+                return Err(Rule::DuplicateProperty.broken_at(k));
             }
         }
     }

@@ -2,6 +2,7 @@
 -- What an answer tells, in numbers.
 use Rattle.std.specs.Prelude.{ℕ, Option, None, Some, Result, Ok, Err}
 use Rattle.laws.specs.declared.rules.Rule.{Rule}
+use Rattle.laws.specs.declared.rules.Broken.{Broken}
 use Rattle.laws.specs.declared.rules.Refusal.{Refusal}
 use Rattle.laws.specs.facts.Limits.{no_property}
 use Rattle.laws.specs.facts.Told.{Fault, number_of}
@@ -24,3 +25,8 @@ told_of r = record { number = number_of r.rule; place = r.place; second = second
 abbrev pub told_in : {A : Type 0} → Result A Refusal → Fault
 told_in (Ok _) = record { number = 0; place = 0; second = no_property }
 told_in (Err r) = told_of r
+
+-- what is told of no property
+abbrev pub broken_in : {A : Type 0} → Result A Broken → Fault
+broken_in (Ok _) = record { number = 0; place = 0; second = no_property }
+broken_in (Err b) = record { number = number_of b.rule; place = b.place; second = no_property }
