@@ -2,7 +2,7 @@
 -- What finding the map tells, in numbers.
 use Rattle.std.specs.Prelude.{ℕ, Result, Ok, Err}
 use Rattle.laws.specs.declared.rules.Broken.{Broken}
-use Rattle.laws.specs.answers.Told.{told_of}
+use Rattle.laws.specs.facts.Told.{number_of}
 use Rattle.laws.specs.answers.Fault.{clear, plain}
 use Rattle.cpumap.specs.facts.Told.{MapScan}
 
