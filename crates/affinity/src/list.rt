@@ -50,7 +50,7 @@ pub fn list_mask(list: &[u64]) -> Result<u64, Broken>
 
 // The lowest index with a bit outside the affinity bits.
 fn first_outside(list: &[u64]) -> Result<(), Broken>
-    ensures told { broken_in result ≡ first_outside list.now }
+    ensures { broken_in result ≡ first_outside list.now }
 {
     for (i, mpidr) in list.iter().enumerate() {
         if !is_affine(*mpidr) {

@@ -11,10 +11,10 @@ pub loop-i-init : goal.loop-i-init
 unfolding first_fault
 loop-i-init c = refl
 
-pub returns-then-not-is_affine-clause-told : goal.returns-then-not-is_affine-clause-told
+pub returns-then-not-is_affine : goal.returns-then-not-is_affine
 unfolding first_outside
-returns-then-not-is_affine-clause-told c =
-    rw c.at.ensures
+returns-then-not-is_affine c =
+    rw c.broken_at.ensures
     (at_fault _ _ _ (omega arith) c.loop-i.invariant
     (rw (← c.is_affine.ensures, c.if-not-is_affine.true)) (λ z. omega arith))
 
@@ -23,6 +23,6 @@ loop-i-preserved c =
     clear_more _ _ c.loop-i.invariant refl
     (rw (← c.is_affine.ensures, c.if-not-is_affine.false))
 
-pub returns-clause-told : goal.returns-clause-told
+pub returns : goal.returns
 unfolding first_outside
-returns-clause-told c = at_end _ _ _ (omega arith) c.loop-i.invariant
+returns c = at_end _ _ _ (omega arith) c.loop-i.invariant

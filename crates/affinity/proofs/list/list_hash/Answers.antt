@@ -5,7 +5,7 @@ use mathlib.Core.List.{List}
 use Prim.Native.Nat.{ℕ}
 use Rattle.std.specs.Prelude.{Ok, Err}
 use Rattle.std.proofs.lemmas.Result.{err_from_is_err_and}
-use Rattle.laws.specs.declared.rules.Refusal.{Refusal}
+use Rattle.laws.specs.declared.rules.Broken.{Broken}
 use Rattle.laws.proofs.ToldLaws.{rule_counts}
 use Rattle.affinity.specs.declared.Hash.{Hash}
 use Rattle.affinity.specs.facts.Told.{ListMask, ListHash}
@@ -23,7 +23,7 @@ as_hash m =
 
 module _ (list : List ℕ) where
   refused :
-      (r : Refusal) → mask_told (Err r) ≡ mask_answer list → (hash_told (Err r) ≡ hash_answer list) × HashDemands list (hash_told (Err r))
+      (r : Broken) → mask_told (Err r) ≡ mask_answer list → (hash_told (Err r) ≡ hash_answer list) × HashDemands list (hash_told (Err r))
   unfolding hash_answer
   refused r e =
       let told = mask_refused list (mask_told (Err r)) e (rule_counts r.rule) in
@@ -42,9 +42,9 @@ returns-in_err-mask c =
     let p = err_from_is_err_and c.from_residual.result c.from_residual.ensures.1 in
     let mask = c.in_err-mask.ensures in
     let told = refused c.args.list.now c.in_err-mask.field-0.0 mask.answer in
-    rw (p.1, p.2) (record { answer = told.0; demands = told.1; plain = mask.plain })
+    rw (p.1, p.2) (record { answer = told.0; demands = told.1 })
 
 pub returns : goal.returns
 returns c =
     let told = accepted c.args.list.now c.in_ok-mask.mask c.hash_of_mask.result c.in_ok-mask.ensures.answer c.hash_of_mask.ensures in
-    record { answer = told.0; demands = told.1; plain = tt }
+    record { answer = told.0; demands = told.1 }

@@ -8,10 +8,10 @@ use lib.ListN.{length}
 use borrow.Author.Tests.{eq-eqb, ne_eqb, eqb-true, eqb-false, lt-ltb}
 use Rattle.std.specs.Prelude.{Ok, Err}
 use Rattle.std.proofs.lemmas.Result.{err_from_is_err_and}
-use Rattle.laws.specs.declared.rules.Refusal.{Refusal}
+use Rattle.laws.specs.declared.rules.Broken.{Broken}
 use Rattle.laws.specs.answers.Fault.{clear}
-use Rattle.laws.specs.answers.Told.{told_of}
-use Rattle.laws.proofs.ToldLaws.{refusal_shown}
+use Rattle.laws.specs.answers.Told.{broken_in}
+use Rattle.laws.proofs.ToldLaws.{rule_shown}
 use Rattle.affinity.specs.facts.Told.{ListMask}
 use Rattle.affinity.specs.answers.Told.{mask_told}
 use Rattle.affinity.specs.steps.Mask.{gathered}
@@ -33,42 +33,44 @@ module _ (list : List ℕ) where
   unfolding list_fault mask_answer
   many lt = rw (ne_eqb (length list) 0 (λ z. omega arith), lt-ltb 256 (length list) lt)
 
-  refused : (r : Refusal) → list_fault list ≡ told_of r → mask_told (Err r) ≡ mask_answer list
+  refused : (r : Broken) → list_fault list ≡ broken_in {A = ℕ} (Err r) → mask_told (Err r) ≡ mask_answer list
   unfolding mask_answer
-  refused r e = rw (e, refusal_shown r)
+  refused r e = rw (e, rule_shown r.rule)
 
   accepted : (g : Gathered) → list_fault list ≡ clear → g ≡ gathered list → mask_told (Ok g.mask) ≡ mask_answer list
   unfolding mask_answer gathered
   accepted g e f = rw (e, f)
 
-pub returns-then-is_empty-clause-answer : goal.returns-then-is_empty-clause-answer
-returns-then-is_empty-clause-answer c =
+pub returns-then-is_empty : goal.returns-then-is_empty
+returns-then-is_empty c =
     let list = c.args.list.now in
-    rw c.at.ensures
-    (elim c.then-is_empty.branch [
-      | then-is_empty-via-then-is_empty w ↦ none list (eqb-true (length list) 0 (sym w.if-is_empty.ensures))
-      | then-is_empty-via-else-is_empty+then-list-gt-MAX_CPUS w ↦ many list (omega arith)
-    ])
+    rw c.broken_at.ensures
+    (record {
+      answer = elim c.then-is_empty.branch [
+        | then-is_empty-via-then-is_empty w ↦ none list (eqb-true (length list) 0 (sym w.if-is_empty.ensures))
+        | then-is_empty-via-else-is_empty+then-list-gt-MAX_CPUS w ↦ many list (omega arith)
+      ];
+    })
 
-pub returns-in_err-first_outside-clause-answer : goal.returns-in_err-first_outside-clause-answer
-returns-in_err-first_outside-clause-answer c =
+pub returns-in_err-first_outside : goal.returns-in_err-first_outside
+returns-in_err-first_outside c =
     let list = c.args.list.now in
     let p = err_from_is_err_and c.from_residual.result c.from_residual.ensures.1 in
     let within = fault_within list (eqb-false (length list) 0 (sym c.if-is_empty.ensures)) (omega arith) in
-    rw (p.1, p.2) (refused list c.in_err-first_outside.field-0.0 (within ∙ sym c.in_err-first_outside.ensures.told))
+    rw (p.1, p.2) (record { answer = refused list c.in_err-first_outside.field-0.0 (within ∙ sym c.in_err-first_outside.ensures) })
 
-pub returns-in_ok-first_outside-clause-answer : goal.returns-in_ok-first_outside-clause-answer
-returns-in_ok-first_outside-clause-answer c =
+pub returns-in_ok-first_outside : goal.returns-in_ok-first_outside
+returns-in_ok-first_outside c =
     let list = c.args.list.now in
     let bits = c.gather-bits in
     let within = fault_within list (eqb-false (length list) 0 (sym c.if-is_empty.ensures)) (omega arith) in
-    accepted list bits.result (within ∙ sym c.in_ok-first_outside.ensures.told) bits.ensures
+    record { answer = accepted list bits.result (within ∙ sym c.in_ok-first_outside.ensures) bits.ensures }
 
-pub returns-else-not-is_affine-clause-answer : goal.returns-else-not-is_affine-clause-answer
-returns-else-not-is_affine-clause-answer c =
+pub returns-else-not-is_affine : goal.returns-else-not-is_affine
+returns-else-not-is_affine c =
     let list = c.args.list.now in
     let test = c.is_affine in
     let bits = c.gather-bits in
     let within = fault_within list (eqb-false (length list) 0 (sym c.if-is_empty.ensures)) (omega arith) in
     let clear = some_clear list bits.result test.result bits.ensures test.ensures c.if-not-is_affine.false in
-    accepted list bits.result (within ∙ clear) bits.ensures
+    record { answer = accepted list bits.result (within ∙ clear) bits.ensures }

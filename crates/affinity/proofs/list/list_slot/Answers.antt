@@ -6,7 +6,7 @@ use mathlib.Core.List.{List}
 use Prim.Native.Nat.{ℕ}
 use Rattle.std.specs.Prelude.{Ok, Err}
 use Rattle.std.proofs.lemmas.Result.{err_from_is_err_and}
-use Rattle.laws.specs.declared.rules.Refusal.{Refusal}
+use Rattle.laws.specs.declared.rules.Broken.{Broken}
 use Rattle.laws.specs.answers.Search.{is_among}
 use Rattle.laws.proofs.ToldLaws.{rule_counts}
 use Rattle.affinity.specs.facts.Told.{ListMask, ListSlot}
@@ -30,7 +30,7 @@ module _ (list : List ℕ) (mpidr : ℕ) where
   abbrev Meets : ListSlot → Type 0
   Meets r = (r ≡ slot_answer mpidr list) × SlotDemands list mpidr r
 
-  refused : (r : Refusal) → mask_told (Err r) ≡ mask_answer list → Meets (slot_told (Err r))
+  refused : (r : Broken) → mask_told (Err r) ≡ mask_answer list → Meets (slot_told (Err r))
   unfolding slot_answer
   refused r e =
       let told = mask_refused list (mask_told (Err r)) e (rule_counts r.rule) in
@@ -56,13 +56,13 @@ returns-in_err-mask c =
     let p = err_from_is_err_and c.from_residual.result c.from_residual.ensures.1 in
     let mask = c.in_err-mask.ensures in
     let told = refused c.args.list.now c.args.mpidr c.in_err-mask.field-0.0 mask.answer in
-    rw (p.1, p.2) (record { answer = told.0; demands = told.1; plain = mask.plain })
+    rw (p.1, p.2) (record { answer = told.0; demands = told.1 })
 
 pub returns-then-not-is_among : goal.returns-then-not-is_among
 returns-then-not-is_among c =
     let a = c.args in
     let told = unlisted a.list.now a.mpidr c.in_ok-mask.mask c.in_ok-mask.ensures.answer (sym c.is_among.ensures ∙ c.if-not-is_among.true) in
-    rw c.at.ensures (record { answer = told.0; demands = told.1; plain = refl })
+    rw c.broken_at.ensures (record { answer = told.0; demands = told.1 })
 
 pub returns : goal.returns
 returns c =
@@ -72,4 +72,4 @@ returns c =
     listed a.list.now a.mpidr mask.mask c.slot_of.result mask.ensures.answer
     (sym c.is_among.ensures ∙ c.if-not-is_among.false)
     (c.slot_of.ensures ∙ ap (λ h. slot_guarded h a.mpidr) c.hash_of_mask.ensures) in
-    record { answer = told.0; demands = told.1; plain = tt }
+    record { answer = told.0; demands = told.1 }
