@@ -6,10 +6,10 @@ use mathlib.Core.List.{List}
 use mathlib.Core.Logic.{⊎_elim}
 use Prim.Native.Nat.{ℕ, zero, suc, ◌<◌}
 use native.Mathlib.Omega.{arith}
-use Rattle.std.specs.Prelude.{Option, None, Ok, Err}
-use Rattle.laws.specs.declared.rules.Refusal.{Refusal}
-use Rattle.laws.specs.facts.Told.{Fault, number_of}
-use Rattle.laws.specs.answers.Told.{second_of, told_of}
+use Rattle.std.specs.Prelude.{Ok, Err}
+use Rattle.laws.specs.declared.rules.Broken.{Broken}
+use Rattle.laws.specs.facts.Told.{Fault}
+use Rattle.laws.specs.answers.Told.{broken_in}
 use Rattle.laws.proofs.ToldLaws.{rule_counts}
 use Rattle.affinity.specs.answers.Told.{mask_told}
 use Rattle.laws.specs.answers.Fault.{plain, told}
@@ -40,12 +40,11 @@ module _ (list positions : List ℕ) where
   abbrev rest : Fault
   rest = told (plan_number list positions) 0
 
-  pub check_refused : (r : Refusal) → mask_told (Err r) ≡ mask_answer list → r.property ≡ None → told_of r ≡ plan_fault list positions
+  pub check_refused : (r : Broken) → mask_told (Err r) ≡ mask_answer list → broken_in {A = ℕ} (Err r) ≡ plan_fault list positions
   unfolding plan_fault
-  check_refused r e none =
+  check_refused r e =
       let t = list_refused list (mask_told (Err r)) e (rule_counts r.rule) in
-      ap (λ (p : Option ℕ). record { number = number_of r.rule; place = r.place; second = second_of p }) none
-      ∙ ap₂ plain t.1 t.2
+      ap₂ plain t.1 t.2
       ∙ ap (λ (s : ℕ). record { number = (list_fault list).number; place = (list_fault list).place; second = s }) (sym (fault_plain list))
       ∙ sym (or_first (list_fault list) rest t.0)
 

@@ -9,7 +9,7 @@ ghost use Rattle.plan.specs.answers.Check.{clash, clashes_at, clashes, plan_numb
 
 use laws::{Broken, Rule};
 
-// 0, or the first of 28, 29 and 40.
+// The first of rules 28, 29 and 40 that is broken, if any is.
 pub fn check_plan(list: &[u64], positions: &[u32]) -> Result<(), Broken>
     ensures answer { broken_in result ≡ plan_fault list.now positions.now }
     ensures demands { PlanDemands list.now positions.now (broken_in result) }

@@ -22,7 +22,7 @@ returns-in_err-mask c =
     let p = err_from_is_err_and c.from_residual.result c.from_residual.ensures.1 in
     let refused = list_refused c.args.list.now (mask_told (Err r)) list.answer (rule_counts r.rule) in
     let m = make_meets c.args.list.now {r = plan_told (Err r)} (rw (ne_eqb _ 0 refused.0, refused.1, refused.2)) in
-    rw (p.1, p.2) (record { answer = m.0; demands = m.1; plain = list.plain })
+    rw (p.1, p.2) (record { answer = m.0; demands = m.1 })
 
 pub thinned-requires : goal.thinned-requires
 thinned-requires c = (list_accepted c.args.list.now (mask_told (Ok c.in_ok-mask.mask)) c.in_ok-mask.ensures.answer refl).1
@@ -39,4 +39,4 @@ returns c =
     let list = c.args.list.now in
     let accepted = list_accepted list (mask_told (Ok c.in_ok-mask.mask)) c.in_ok-mask.ensures.answer refl in
     let m = make_meets list {r = plan_told (Ok c.ones_of.result)} (rw (eq-eqb _ 0 accepted.0, ← c.thinned.ensures) c.ones_of.ensures) in
-    record { answer = m.0; demands = m.1; plain = tt }
+    record { answer = m.0; demands = m.1 }
