@@ -1,6 +1,6 @@
 -- SPDX-License-Identifier: BSD-2-Clause OR GPL-2.0-or-later
 -- `read_blob` meets its contract: the header decides, and then its blocks, lent as slices. Assumes nothing.
-use mathlib.Core.Path.{◌≡◌, refl, sym, subst}
+use mathlib.Core.Path.{◌≡◌, sym, subst}
 use Rattle.std.proofs.lemmas.Result.{err_from_is_err_and}
 use Rattle.laws.proofs.ToldLaws.{rule_counts}
 use Prim.Native.Nat.{◌+◌, ◌≤◌}
@@ -39,7 +39,7 @@ returns-in_err-header_fault c =
     let p = err_from_is_err_and c.from_residual.result c.from_residual.ensures.1 in
     let met = header_met a.blob.now a.nodes.now a.props.now c.in_err-header_fault.ensures (rule_counts c.in_err-header_fault.field-0.0) in
     rw (p.1, p.2)
-    (record { answer = met.0; nodes = met.1.0; props = met.1.1.0; reading = met.1.1.1; place = omega arith; plain = refl })
+    (record { answer = met.0; nodes = met.1.0; props = met.1.1.0; reading = met.1.1.1; place = omega arith })
 
 pub returns-in_err-blocks_fault : goal.returns-in_err-blocks_fault
 returns-in_err-blocks_fault c =
@@ -50,7 +50,7 @@ returns-in_err-blocks_fault c =
     blocks_met a.blob.now a.nodes.now a.props.now (sym c.in_ok-header_fault.ensures) c.in_err-blocks_fault.ensures
     (rule_counts c.in_err-blocks_fault.field-0.0) in
     rw (p.1, p.2)
-    (record { answer = met.0; nodes = met.1.0; props = met.1.1.0; reading = met.1.1.1; place = omega arith; plain = refl })
+    (record { answer = met.0; nodes = met.1.0; props = met.1.1.0; reading = met.1.1.1; place = omega arith })
 
 pub overflow_add-end : goal.overflow_add-end
 overflow_add-end c = let i = inside (goal.at.overflow_add-end c).After-block_places-found in omega (arith, i.0, i.1)
@@ -86,4 +86,4 @@ returns c =
     let met =
     read_met a.blob.now a.nodes.now a.props.now (header-sound places) (blocks-sound places) (lent_is a.blob.now c.block_places-found.ensures)
     (left.answer, (left.nodes, left.props)) in
-    record { answer = met.0; nodes = met.1.0; props = met.1.1.0; reading = met.1.1.1; place = left.place; plain = left.plain }
+    record { answer = met.0; nodes = met.1.0; props = met.1.1.0; reading = met.1.1.1; place = left.place }

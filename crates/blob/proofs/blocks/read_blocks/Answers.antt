@@ -3,7 +3,7 @@
 use Rattle.std.specs.Prelude.{Result, Ok, Err, MatchResult}
 use mathlib.Core.Path.{◌≡◌, refl, sym, ap, ◌∙◌}
 use Prim.Native.Nat.{ℕ}
-use Rattle.laws.specs.declared.rules.Refusal.{Refusal}
+use Rattle.laws.specs.declared.rules.Broken.{Broken}
 use Rattle.stream.specs.declared.Walk.{Walk}
 use Rattle.stream.specs.answers.Walk.{walk}
 use Rattle.flat.specs.answers.Told.{blob_told}
@@ -13,8 +13,8 @@ use Rattle.blob.proofs.ReadLaws.{Left, filled_left}
 use Rattle.blob.proofs.blocks.read_blocks.Goals as goal
 use Rattle.blob.proofs.blocks.read_blocks.Goals.{After-fill}
 
--- what is whole where its error is made a refusal was whole
-was_whole : (r : Result Walk ℕ) {w : Walk} → MatchResult r (λ x. ◌≡◌ {A = Result Walk Refusal} (Ok w) (Ok x)) (λ _. ⊥) → r ≡ Ok w
+-- what is whole where its error is made a broken rule was whole
+was_whole : (r : Result Walk ℕ) {w : Walk} → MatchResult r (λ x. ◌≡◌ {A = Result Walk Broken} (Ok w) (Ok x)) (λ _. ⊥) → r ≡ Ok w
 was_whole (Ok x) e = cc
 was_whole (Err p) e = absurd e
 
