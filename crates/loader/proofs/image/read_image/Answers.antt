@@ -1,15 +1,11 @@
 -- SPDX-License-Identifier: BSD-2-Clause OR GPL-2.0-or-later
 -- `read_image` tells what the blob breaks, and else reads the board that its records make. Assumes nothing.
-use Rattle.std.specs.Prelude.{Option}
-use mathlib.Core.Path.{refl, ap}
+use mathlib.Core.Path.{refl}
 use Prim.Native.Nat.{ℕ}
 use native.Mathlib.Omega.{arith}
 use lib.ListN.{length-replicate}
 use Rattle.std.proofs.lemmas.Result.{err_from_is_err_and}
 use Rattle.laws.proofs.ToldLaws.{rule_counts}
-use Rattle.laws.specs.facts.Told.{number_of}
-use Rattle.laws.specs.answers.Told.{second_of}
-use Rattle.demands.specs.answers.Answer.{refused_with}
 use Rattle.loader.specs.facts.Image.{node_room, prop_room}
 use Rattle.loader.proofs.ImageLaws.{refuses, reads}
 use Rattle.loader.proofs.image.read_image.Goals as goal
@@ -21,13 +17,12 @@ returns-in_err-found c =
     let read = c.in_err-found.ensures in
     let told = c.in_err-found.field-0.0 in
     let refusal = err_from_is_err_and c.from_residual.result c.from_residual.ensures.1 in
-    let second = λ (o : Option ℕ). refused_with (record { number = number_of told.rule; place = told.place; second = second_of o }) in
     let t =
     refuses a.width a.blob.now a.rows.now (length-replicate {A = ℕ} node_room 0) (length-replicate {A = ℕ} prop_room 0) read.answer
     read.reading
     (rule_counts told.rule)
     read.place
-    (ap second read.plain) in
+    refl in
     rw (refusal.1, refusal.2) (record { answer = t.0; rows = t.1.0; words = t.1.1.0; demands = t.1.1.1 })
 
 pub returns : goal.returns

@@ -1,6 +1,6 @@
 -- SPDX-License-Identifier: BSD-2-Clause OR GPL-2.0-or-later
 -- `byte_slot` reads whole MPIDRs and asks for the slot in their list. Assumes nothing.
-use mathlib.Core.Path.{◌≡◌, refl, sym, ap, ◌∙◌}
+use mathlib.Core.Path.{◌≡◌, sym, ap, ◌∙◌}
 use mathlib.Core.List.{List}
 use Prim.Native.Nat.{ℕ, ◌/◌, ◌≤◌}
 use native.Mathlib.Omega.{arith}
@@ -34,16 +34,16 @@ returns-then-list-ne0 c =
       | then-list-ne0-via-then-list-ne0 w ↦ cut a.list.now a.mpidr w.if-list-ne0.true
       | then-list-ne0-via-else-list-ne0+then-count-gt-MAX_CPUS w ↦ long a.list.now a.mpidr w.if-list-ne0.false w.if-count-gt-MAX_CPUS.true
     ] in
-    rw c.at.ensures (record { answer = t.0; demands = t.1; plain = refl })
+    rw c.broken_at.ensures (record { answer = t.0; demands = t.1 })
 
 pub returns-in_err-read_mpidrs : goal.returns-in_err-read_mpidrs
 returns-in_err-read_mpidrs c =
     let a = c.args in
     let told = c.in_err-read_mpidrs.field-0.0 in
-    let refusal = err_from_is_err_and c.from_residual.result c.from_residual.ensures.1 in
+    let broken = err_from_is_err_and c.from_residual.result c.from_residual.ensures.1 in
     let read = c.in_err-read_mpidrs.ensures in
     let t = outside a.list.now a.mpidr c.if-list-ne0.false (omega (arith, c.if-count-gt-MAX_CPUS.false)) read.fault (rule_counts told.rule) in
-    rw (refusal.1, refusal.2) (record { answer = t.0; demands = t.1; plain = read.plain })
+    rw (broken.1, broken.2) (record { answer = t.0; demands = t.1 })
 
 pub returns : goal.returns
 returns c =
@@ -52,4 +52,4 @@ returns c =
     let few : length a.list.now / 8 ≤ 256 = omega (arith, c.if-count-gt-MAX_CPUS.false) in
     let all = front a.list.now c.read_mpidrs.new.mpidrs few c.in_ok-read_mpidrs.ensures.mpidrs in
     let t = listed a.list.now a.mpidr c.if-list-ne0.false (slot.answer ∙ ap (slot_answer a.mpidr) all) in
-    record { answer = t.0; demands = t.1; plain = slot.plain }
+    record { answer = t.0; demands = t.1 }

@@ -44,7 +44,7 @@ returns-then-not-is_affine-clause-fault c =
     let p = (goal.at.returns-then-not-is_affine-clause-fault c).After-number_at-mpidr in
     let l = c.args.list.now in
     let bit : 29 ≡ outside l c.loop-k.k = rw (← is_number p, ← c.is_affine.ensures, c.if-not-is_affine.true) in
-    rw c.at.ensures
+    rw c.broken_at.ensures
     (at_fault (outside l) c.loop-k.k (length (numbers_in l)) (omega (arith, more p, numbers_length l)) c.loop-k.invariant.1 bit (λ z. omega arith))
 
 pub loop-k-preserved : goal.loop-k-preserved
@@ -66,5 +66,4 @@ returns c =
     record {
       fault = at_end (outside l) c.loop-k.k (length (numbers_in l)) (all ∙ sym (numbers_length l)) inv.1;
       mpidrs = inv.0 ∙ ap (λ (n : ℕ). laid_over (held number_size n l) a.mpidrs.now) all;
-      plain = tt;
     }
