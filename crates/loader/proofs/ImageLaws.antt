@@ -68,16 +68,16 @@ module _
         first_unique (stage_in blob_stages) (BlobRule blob (length nodes) (length props)) n p found.number found.place (sized_told told)
         (reading.refused ne).first
 
-    pub refuses : {r : BoardAnswer} → found.place < 2 ^ 32 → r ≡ refused_with (plain found.number found.place) → Owed r before
+    pub refuses : found.place < 2 ^ 32 → Owed (refused_with (plain found.number found.place)) before
     unfolding image_answer image_rows
-    refuses {r} word e =
+    refuses word =
         let shut = ne_eqb (blob_found blob).number 0 (λ z. ne (number_is ∙ z)) in (
-          rw (shut, ← found_is) e,
+          rw (shut, ← found_is),
           (
             rw shut,
             (
-              rw e (record { place = word; second = omega arith; count = omega arith }),
-              rw e (record {
+              record { place = word; second = omega arith; count = omega arith },
+              record {
                 refused = λ n p told.
                     let same = refusal told in
                     record { number = sym same.0; place = sym same.1; second = refl; count = refl; hash = refl };
@@ -85,7 +85,7 @@ module _
                 untouched = λ _. refl;
                 rest = refl;
                 size = refl;
-              }),
+              },
             ),
           ),
         )

@@ -21,8 +21,7 @@ returns-in_err-found c =
     refuses a.width a.blob.now a.rows.now (length-replicate {A = ℕ} node_room 0) (length-replicate {A = ℕ} prop_room 0) read.answer
     read.reading
     (rule_counts told.rule)
-    read.place
-    refl in
+    read.place in
     rw (refusal.1, refusal.2) (record { answer = t.0; rows = t.1.0; words = t.1.1.0; demands = t.1.1.1 })
 
 pub returns : goal.returns
