@@ -25,7 +25,7 @@ returns-then-not-sound_property c =
     let told =
     words_sound a.count a.props.now a.pool.now c.loop-k.k c.sound_property.ensures
     c.wide-node.ensures c.wide-start.ensures c.wide-len.ensures c.wide-value.ensures c.wide-size.ensures in
-    rw c.at.ensures
+    rw c.broken_at.ensures
     (at_fault _ _ _ c.loop-k-test.true c.loop-k.invariant.0 (fault_seven _ _ _ _ (sym told ∙ c.if-not-sound_property.true)) (λ z. omega arith))
 
 -- property k keeps rule 7
@@ -64,7 +64,7 @@ returns-then-is_property c =
     let same =
     same_name _ _ _ _ _ c.loop-k.invariant.0 c.loop-j-test.true c.wide-node.ensures c.wide-start.ensures c.wide-len.ensures
     (sym c.is_property.ensures ∙ c.if-is_property.true) in
-    rw c.at-then-is_property.ensures
+    rw c.broken_at-then-is_property.ensures
     (at_fault _ _ _ c.loop-k-test.true c.loop-k.invariant.0 (fault_eight _ _ _ _ _ sound c.loop-j-test.true same) (λ z. omega arith))
 
 pub loop-j-preserved : goal.loop-j-preserved
