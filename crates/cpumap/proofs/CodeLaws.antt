@@ -12,11 +12,10 @@ use lib.ListN.{length, set}
 use borrow.Author.Tests.{lt-ltb, le-ltb, le-leb, lt-leb}
 use Rattle.laws.specs.declared.rules.Rule.{Rule}
 use Rattle.laws.specs.declared.rules.Rule.TheVariants.{CpuMapMissing}
-use Rattle.laws.specs.declared.rules.Refusal.{Refusal}
+use Rattle.laws.specs.declared.rules.Broken.{Broken}
 use Rattle.laws.specs.facts.Told.{Fault, number_of}
-use Rattle.laws.specs.answers.Told.{told_of}
 use Rattle.laws.specs.answers.Fault.{plain, clear, first_fault}
-use Rattle.laws.proofs.ToldLaws.{refusal_shown}
+use Rattle.laws.proofs.ToldLaws.{rule_shown}
 use Rattle.laws.specs.answers.Search.{lowest}
 use Rattle.laws.proofs.SearchLaws.{lowest_at}
 use Rattle.layout.specs.facts.Row.{gap}
@@ -172,12 +171,12 @@ module _ (nodes pool : List ℕ) where
   past_map t s = rw (lt-ltb (map_of nodes pool) (node_count nodes) (rw t.0 at t.1)) (sym s)
 
   pub map_second :
-      {m : ℕ} (r : Refusal) →
+      {m : ℕ} (r : Broken) →
       (m ≡ map_of nodes pool) × (m < node_count nodes) →
-      told_of r ≡ seconds →
-      record { fault = told_of r; map = 0 } ≡ map_scan nodes pool
+      plain (number_of r.rule) r.place ≡ seconds →
+      record { fault = plain (number_of r.rule) r.place; map = 0 } ≡ map_scan nodes pool
   unfolding map_scan
-  map_second r t s = rw (past_map t s, refusal_shown r)
+  map_second r t s = rw (past_map t s, rule_shown r.rule)
 
   pub map_found :
       {m : ℕ} → (m ≡ map_of nodes pool) × (m < node_count nodes) → clear ≡ seconds → record { fault = clear; map = m } ≡ map_scan nodes pool

@@ -11,7 +11,7 @@ unfolding first_fault
 loop-i-init c = refl
 
 pub returns-in-Err : goal.returns-in-Err
-returns-in-Err c = rw c.at.ensures (refused_at _ _ _ c.in-Err.rule c.loop-i-test.true c.loop-i.invariant c.in-Err.ensures)
+returns-in-Err c = rw c.broken_at.ensures (refused_at _ _ _ c.in-Err.rule c.loop-i-test.true c.loop-i.invariant c.in-Err.ensures)
 
 pub loop-i-preserved : goal.loop-i-preserved
 loop-i-preserved c = clear_more _ _ c.loop-i.invariant c.in_default.ensures refl
