@@ -8,7 +8,7 @@ ghost use Rattle.records.specs.answers.Check.{sound_parent, node_fault};
 
 use crate::name::sound_name;
 use laws::limits::{MAX_NODE_NAME, NO_PARENT};
-use laws::{Broken, Rule};
+use laws::{Broken, Rule, first_broken};
 use tables::{is_below, node_word};
 
 // Whether the parent of record i is the record before it or an ancestor of that one; record 0 has none.
@@ -45,10 +45,5 @@ pub fn first_node_fault(nodes: &[u32], bytes: usize) -> Result<(), Broken>
     ensures { let table = nodes.now in
         broken_in result ≡ first_fault (node_fault table bytes) (node_count table) }
 {
-    for i in 0..nodes.len() / 3 {
-        if let Err(rule) = node_fault(nodes, bytes, i) {
-            return Err(rule.broken_at(i));
-        }
-    }
-    Ok(())
+    first_broken(nodes.len() / 3, |i| node_fault(nodes, bytes, i))
 }
