@@ -7,7 +7,7 @@ ghost use Rattle.laws.specs.answers.Fault.{first_fault};
 ghost use Rattle.tables.specs.facts.Board.{node_count};
 ghost use Rattle.cpumap.specs.answers.Find.{is_map_name, is_map, map_of, second_map_fault, map_scan};
 
-use laws::{Broken, Rule};
+use laws::{Broken, Rule, first_broken};
 use tables::{Tables, binding, cell_at, is_child, node_word};
 
 // Whether record i is named `cpu-map`: seven bytes, by the cells at their start and at their end.
@@ -56,12 +56,7 @@ fn second_map(tables: &Tables, map: usize) -> Result<(), Broken>
     ensures { let table = tables.now.nodes.now in
         broken_in result ≡ first_fault (second_map_fault table tables.now.pool.now) (node_count table) }
 {
-    for i in 0..tables.nodes.len() / 3 {
-        if let Err(rule) = second_map_fault(tables, map, i) {
-            return Err(rule.broken_at(i));
-        }
-    }
-    Ok(())
+    first_broken(tables.nodes.len() / 3, |i| second_map_fault(tables, map, i))
 }
 
 // The map's record, or the first of rules 15 and 16 that is broken.
