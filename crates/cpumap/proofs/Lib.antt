@@ -5,7 +5,6 @@ pub mod NameFacts
 pub mod MapMeans
 pub mod MapTells
 pub mod SecondMap
-pub mod MapNameLaws
 pub mod WithinMeans
 pub mod PathMeans
 pub mod PathWords

@@ -8,26 +8,20 @@ ghost use Rattle.tables.specs.facts.Board.{node_count};
 ghost use Rattle.cpumap.specs.answers.Find.{is_map_name, is_map, map_of, second_map_fault, map_scan};
 
 use laws::{Broken, Rule, first_broken};
-use tables::{Tables, binding, cell_at, is_child, node_word};
+use tables::{Tables, is_child, name_is};
 
-// Whether record i is named `cpu-map`: seven bytes, by the cells at their start and at their end.
-// The two slices, and not `&Tables`: a proof knows only of a slice that is passed by itself that its words and bytes fit.
-fn is_map_name(nodes: &[u32], pool: &[u8], i: usize) -> bool
-    ensures { result ≡ is_map_name nodes.now pool.now i }
+// Whether record i is named `cpu-map`.
+fn is_map_name(tables: &Tables, i: usize) -> bool
+    ensures { result ≡ is_map_name tables.now.nodes.now tables.now.pool.now i }
 {
-    if node_word(nodes, i, 2) != 7 {
-        return false;
-    }
-    let offset = node_word(nodes, i, 1);
-    cell_at(pool, offset) == binding::CPU_MAP_START
-        && cell_at(pool, offset + 3) == binding::CPU_MAP_END
+    name_is(tables, i, b"cpu-map")
 }
 
 // Whether record i is a child of record 0 named `cpu-map`.
 fn is_map(tables: &Tables, i: usize) -> bool
     ensures { result ≡ is_map tables.now.nodes.now tables.now.pool.now i }
 {
-    is_child(tables.nodes, 0, i) && is_map_name(tables.nodes, tables.pool, i)
+    is_child(tables.nodes, 0, i) && is_map_name(tables, i)
 }
 
 // The map's record.
@@ -44,7 +38,7 @@ fn second_map_fault(tables: &Tables, map: usize, i: usize) -> Result<(), Rule>
     requires { map ≡ map_of tables.now.nodes.now tables.now.pool.now }
     ensures { number_in result ≡ second_map_fault tables.now.nodes.now tables.now.pool.now i }
 {
-    if is_map_name(tables.nodes, tables.pool, i) && i != map {
+    if is_map_name(tables, i) && i != map {
         return Err(Rule::CpuMapDuplicate);
     }
     Ok(())
