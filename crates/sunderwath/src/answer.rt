@@ -1,16 +1,20 @@
 // SPDX-License-Identifier: BSD-2-Clause OR GPL-2.0-or-later
 // The eleven words of an answer.
 ghost use Rattle.std.specs.Prelude.{◌≡◌, ◌≤◌, ◌<◌, ◌^◌, IfErr, length};
-ghost use Rattle.laws.specs.answers.Told.{second_of, told_of, told_in};
+ghost use Rattle.laws.specs.facts.Told.{number_of};
+ghost use Rattle.laws.specs.answers.Fault.{plain};
+ghost use Rattle.laws.specs.answers.Told.{second_of, told_of, broken_in};
+ghost use Rattle.affinity.specs.facts.List.{no_hash};
 ghost use Rattle.sunderwath.specs.answers.Answer.{answer_size, answer_words, or_short, answer_after, in_words};
 ghost use Rattle.sunderwath.specs.answers.Board.{board_words};
 ghost use Rattle.demands.specs.facts.Words.{Words};
 ghost use Rattle.demands.specs.answers.Told.{board_told};
 
+use crate::front::put_front;
 use affinity::Hash;
 use demands::BoardRows;
 use laws::limits::NO_PROPERTY;
-use laws::{Refusal, Rule};
+use laws::{Broken, Refusal, Rule};
 
 // The words of an answer.
 pub const ANSWER_WORDS: usize = 11;
@@ -55,14 +59,22 @@ pub fn tell(refusal: Refusal) -> Told
     }
 }
 
+// What is told of a rule of which no property is told.
+pub fn tell_broken(broken: Broken) -> Told
+    requires { broken.place < 2 ^ 32 }
+    ensures { in_words result ≡ plain (number_of broken.rule) broken.place }
+{
+    tell(broken.into())
+}
+
 // What is told of a check.
-pub fn tell_check(checked: Result<(), Refusal>) -> Told
-    requires { IfErr checked (λ refusal. (refusal.place < 2 ^ 32) × (second_of refusal.property < 2 ^ 32)) }
-    ensures { in_words result ≡ told_in checked }
+pub fn tell_check(checked: Result<(), Broken>) -> Told
+    requires { IfErr checked (λ broken. broken.place < 2 ^ 32) }
+    ensures { in_words result ≡ broken_in checked }
 {
     match checked {
         Ok(()) => CLEAR,
-        Err(refusal) => tell(refusal),
+        Err(broken) => tell_broken(broken),
     }
 }
 
@@ -72,19 +84,35 @@ pub fn put_answer(answer: &mut [u32], told: Told, third: u32, hash: Hash) -> u32
     ensures number { result ≡ or_short answer.old told.number }
     ensures answer { answer.new ≡ answer_after answer.old (answer_words told.number told.place told.second third hash) }
 {
-    let shifts = hash.shifts;
-    answer[0] = told.number;
-    answer[1] = told.place;
-    answer[2] = third;
-    answer[3] = (hash.mask % 4294967296) as u32;
-    answer[4] = (hash.mask / 4294967296) as u32;
-    answer[5] = shifts[0];
-    answer[6] = shifts[1];
-    answer[7] = shifts[2];
-    answer[8] = shifts[3];
-    answer[9] = hash.bits;
-    answer[10] = told.second;
+    let [a, b, c, d] = hash.shifts;
+    let low = (hash.mask % 4294967296) as u32;
+    let high = (hash.mask / 4294967296) as u32;
+    put_front(
+        answer,
+        &[
+            told.number,
+            told.place,
+            third,
+            low,
+            high,
+            a,
+            b,
+            c,
+            d,
+            hash.bits,
+            told.second,
+        ],
+    );
     told.number
+}
+
+// The same for a refusal: no third word and no hash.
+pub fn put_refusal(answer: &mut [u32], told: Told) -> u32
+    requires { answer_size ≤ length answer.old }
+    ensures number { result ≡ or_short answer.old told.number }
+    ensures answer { answer.new ≡ answer_after answer.old (answer_words told.number told.place told.second 0 no_hash) }
+{
+    put_answer(answer, told, 0, NO_HASH)
 }
 
 // The same for the answer of a board, whose numbers are words.
@@ -96,6 +124,6 @@ pub fn put_board(answer: &mut [u32], found: Result<BoardRows, Refusal>) -> u32
 {
     match found {
         Ok(board) => put_answer(answer, CLEAR, board.count as u32, board.hash),
-        Err(refusal) => put_answer(answer, tell(refusal), 0, NO_HASH),
+        Err(refusal) => put_refusal(answer, tell(refusal)),
     }
 }

@@ -8,7 +8,7 @@ ghost use Rattle.loader.specs.answers.List.{byte_slot};
 ghost use Rattle.sunderwath.specs.answers.Answer.{or_short_of, answer_after_of};
 ghost use Rattle.sunderwath.specs.answers.Bytes.{reply_size, reply_bytes, image_reply, slot_reply, bytes_behind};
 
-use crate::answer::{ANSWER_SHORT, CLEAR, Told, tell};
+use crate::answer::{ANSWER_SHORT, CLEAR, Told, tell, tell_broken};
 
 // The bytes of an answer: four words.
 const REPLY_BYTES: usize = 16;
@@ -21,6 +21,15 @@ fn put_reply(answer: &mut [u8], told: Told, last: u32) -> u32
 {
     wire::put_words(answer, &[told.number, told.place, told.second, last]);
     told.number
+}
+
+// The same for a refusal: no last word.
+fn put_refused(answer: &mut [u8], told: Told) -> u32
+    requires { reply_size ≤ length answer.old }
+    ensures number { result ≡ or_short_of reply_size answer.old told.number }
+    ensures answer { answer.new ≡ answer_after_of reply_size answer.old (reply_bytes told.number told.place told.second 0) }
+{
+    put_reply(answer, told, 0)
 }
 
 // Reads a flattened devicetree: rows as bytes and answer, or the first rule broken.
@@ -45,7 +54,7 @@ pub extern "C" fn sunderwath_read_blob(
     }
     match loader::read_image(width, blob, rows) {
         Ok(board) => put_reply(answer, CLEAR, board.count as u32),
-        Err(refusal) => put_reply(answer, tell(refusal), 0),
+        Err(refusal) => put_refused(answer, tell(refusal)),
     }
 }
 
@@ -61,6 +70,6 @@ pub extern "C" fn sunderwath_slot(mpidr: u64, list: &[u8], answer: &mut [u8]) ->
     }
     match loader::byte_slot(mpidr, list) {
         Ok(slot) => put_reply(answer, CLEAR, slot),
-        Err(refusal) => put_reply(answer, tell(refusal), 0),
+        Err(broken) => put_refused(answer, tell_broken(broken)),
     }
 }

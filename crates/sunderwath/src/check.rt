@@ -7,7 +7,7 @@ ghost use Rattle.wellformed.specs.answers.Check.{table_fault};
 ghost use Rattle.sunderwath.specs.answers.Answer.{or_short, answer_after};
 ghost use Rattle.sunderwath.specs.answers.Tables.{check_words, found_word, FindsWord};
 
-use crate::answer::{ANSWER_SHORT, ANSWER_WORDS, NO_HASH, put_answer, tell_check};
+use crate::answer::{ANSWER_SHORT, ANSWER_WORDS, put_refusal, tell_check};
 use laws::limits::NO_PROPERTY;
 use tables::{Tables, record_of};
 
@@ -29,7 +29,7 @@ pub extern "C" fn sunderwath_check_tables(
     }
     let tables = Tables { nodes, props, pool };
     let told = tell_check(wellformed::table_fault(width, &tables));
-    put_answer(answer, told, 0, NO_HASH)
+    put_refusal(answer, told)
 }
 
 // The record number of a node's property, or 0xFFFFFFFF.

@@ -7,18 +7,18 @@ ghost use Rattle.flat.specs.answers.Answer.{blob_answer};
 ghost use Rattle.sunderwath.specs.answers.Answer.{or_short_of, answer_after_of};
 ghost use Rattle.sunderwath.specs.answers.Flat.{flat_size, flat_words, nodes_behind, props_behind};
 
-use crate::answer::ANSWER_SHORT;
+use crate::answer::{ANSWER_SHORT, tell_broken};
 use crate::front::put_front;
 use flat::BlobCounts;
-use laws::Refusal;
+use laws::Broken;
 
 // The words of the answer.
 const FLAT_WORDS: usize = 4;
 
 // Writes the four words at the start of an answer that has room for them, and gives its number.
-fn put_flat(answer: &mut [u32], found: Result<BlobCounts, Refusal>) -> u32
+fn put_flat(answer: &mut [u32], found: Result<BlobCounts, Broken>) -> u32
     requires room { flat_size ≤ length answer.old }
-    requires place { IfErr found (λ refusal. refusal.place < 2 ^ 32) }
+    requires place { IfErr found (λ broken. broken.place < 2 ^ 32) }
     ensures number { result ≡ (blob_told found).number }
     ensures answer { answer.new ≡ answer_after_of flat_size answer.old (flat_words (blob_told found)) }
 {
@@ -27,10 +27,10 @@ fn put_flat(answer: &mut [u32], found: Result<BlobCounts, Refusal>) -> u32
             put_front(answer, &[0, 0, counts.nodes, counts.props]);
             0
         }
-        Err(refusal) => {
-            let number = refusal.rule.number();
-            put_front(answer, &[number, refusal.place as u32, 0, 0]);
-            number
+        Err(broken) => {
+            let told = tell_broken(broken);
+            put_front(answer, &[told.number, told.place, 0, 0]);
+            told.number
         }
     }
 }

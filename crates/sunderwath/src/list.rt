@@ -5,7 +5,9 @@ ghost use Rattle.affinity.specs.answers.List.{hash_answer, slot_answer};
 ghost use Rattle.sunderwath.specs.answers.Answer.{or_short, answer_after};
 ghost use Rattle.sunderwath.specs.answers.List.{hash_words, slot_words};
 
-use crate::answer::{ANSWER_SHORT, ANSWER_WORDS, CLEAR, NO_HASH, put_answer, tell};
+use crate::answer::{
+    ANSWER_SHORT, ANSWER_WORDS, CLEAR, NO_HASH, put_answer, put_refusal, tell_broken,
+};
 
 // The hash of a list of MPIDRs.
 #[unsafe(no_mangle)]
@@ -18,7 +20,7 @@ pub extern "C" fn sunderwath_list_hash(list: &[u64], answer: &mut [u32]) -> u32
     }
     match affinity::list_hash(list) {
         Ok(hash) => put_answer(answer, CLEAR, 0, hash),
-        Err(refusal) => put_answer(answer, tell(refusal), 0, NO_HASH),
+        Err(broken) => put_refusal(answer, tell_broken(broken)),
     }
 }
 
@@ -33,6 +35,6 @@ pub extern "C" fn sunderwath_list_slot(mpidr: u64, list: &[u64], answer: &mut [u
     }
     match affinity::list_slot(mpidr, list) {
         Ok(slot) => put_answer(answer, CLEAR, slot, NO_HASH),
-        Err(refusal) => put_answer(answer, tell(refusal), 0, NO_HASH),
+        Err(broken) => put_refusal(answer, tell_broken(broken)),
     }
 }

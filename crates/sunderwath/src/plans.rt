@@ -1,6 +1,6 @@
 // SPDX-License-Identifier: BSD-2-Clause OR GPL-2.0-or-later
 // The three calls on plans.
-ghost use Rattle.std.specs.Prelude.{◌≡◌};
+ghost use Rattle.std.specs.Prelude.{◌≡◌, ◌≤◌, [], ◌∷◌, ◌++◌, length, drop};
 ghost use Rattle.plan.specs.facts.Planner.{MakeDemands};
 ghost use Rattle.plan.specs.facts.Rules.{PlanDemands, PlanSlotDemands};
 ghost use Rattle.plan.specs.answers.Check.{plan_fault};
@@ -9,7 +9,7 @@ ghost use Rattle.plan.specs.answers.Slot.{plan_slot};
 ghost use Rattle.sunderwath.specs.answers.Answer.{or_short_of, answer_after_of};
 ghost use Rattle.sunderwath.specs.answers.Plan.{plan_check_size, plan_check_words, plan_slot_size, plan_slot_words, plan_size, plan_words};
 
-use crate::answer::{ANSWER_SHORT, tell, tell_check};
+use crate::answer::{ANSWER_SHORT, Told, tell_broken, tell_check};
 use crate::front::put_front;
 
 // The words of the three answers.
@@ -38,6 +38,16 @@ pub extern "C" fn sunderwath_plan_check(list: &[u64], positions: &[u32], answer:
     told.number
 }
 
+// Writes number and place of a refusal and a 0 at the start of an answer that has room for them, and gives the number.
+fn put_refused(answer: &mut [u32], told: Told) -> u32
+    requires { 3 ≤ length answer.old }
+    ensures number { result ≡ told.number }
+    ensures answer { answer.new ≡ (told.number ∷ told.place ∷ 0 ∷ []) ++ drop 3 answer.old }
+{
+    put_front(answer, &[told.number, told.place, 0]);
+    told.number
+}
+
 // The slot of one MPIDR of a list under a plan.
 #[unsafe(no_mangle)]
 pub extern "C" fn sunderwath_plan_slot(
@@ -59,11 +69,7 @@ pub extern "C" fn sunderwath_plan_slot(
             put_front(answer, &[0, 0, slot]);
             0
         }
-        Err(refusal) => {
-            let told = tell(refusal);
-            put_front(answer, &[told.number, told.place, 0]);
-            told.number
-        }
+        Err(broken) => put_refused(answer, tell_broken(broken)),
     }
 }
 
@@ -83,11 +89,10 @@ pub extern "C" fn sunderwath_plan_make(list: &[u64], answer: &mut [u32]) -> u32
             put_front(&mut answer[BEFORE_POSITIONS..], &plan.positions);
             0
         }
-        Err(refusal) => {
-            let told = tell(refusal);
-            put_front(answer, &[told.number, told.place, 0]);
+        Err(broken) => {
+            let number = put_refused(answer, tell_broken(broken));
             put_front(&mut answer[BEFORE_POSITIONS..], &[0; 32]);
-            told.number
+            number
         }
     }
 }

@@ -6,14 +6,14 @@ use Rattle.laws.specs.facts.Told.{Fault}
 use Rattle.tables.specs.facts.Board.{board}
 use Rattle.wellformed.proofs.RuleLaws.{table_place}
 use Rattle.wellformed.proofs.SecondTables.{tables_plain}
-use Rattle.sunderwath.proofs.CallLaws.{check_in_words}
+use Rattle.sunderwath.proofs.CallLaws.{check_in_word}
 use Rattle.sunderwath.proofs.check.sunderwath_check_tables.Goals as goal
 
 pub tell_check-told-requires : goal.tell_check-told-requires
 tell_check-told-requires c =
     let a = c.args in
     let b = board a.width a.nodes.now a.props.now a.pool.now in
-    check_in_words c.table_fault.result _ c.table_fault.ensures (omega (arith, table_place b)) (rw (tables_plain b) (omega arith))
+    check_in_word c.table_fault.result _ c.table_fault.ensures (omega (arith, table_place b))
 
 pub returns-clause-answer : goal.returns-clause-answer
 returns-clause-answer c =
@@ -21,4 +21,4 @@ returns-clause-answer c =
     let b = board a.width a.nodes.now a.props.now a.pool.now in
     let same = c.tell_check-told.ensures ∙ c.table_fault.ensures in
     let silent = ap (λ (f : Fault). f.second) same ∙ tables_plain b in
-    rw (← same) (rw silent at c.put_answer.ensures.answer)
+    rw (← same) (rw silent at c.put_refusal.ensures.answer)

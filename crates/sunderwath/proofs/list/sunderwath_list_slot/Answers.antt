@@ -3,10 +3,8 @@
 use mathlib.Core.Path.{ap}
 use Rattle.affinity.specs.facts.Told.{ListSlot}
 use Rattle.affinity.proofs.ListLaws.{slot_place_le}
-use Rattle.sunderwath.proofs.CallLaws.{plain_in_words}
+use Rattle.sunderwath.proofs.CallLaws.{place_in_word}
 use Rattle.sunderwath.proofs.list.sunderwath_list_slot.Goals as goal
 
-pub tell-requires : goal.tell-requires
-tell-requires c =
-    let e = c.in-Err.ensures in
-    plain_in_words c.in-Err.refusal (ap (λ (a : ListSlot). a.place) e.answer) (slot_place_le _ _) e.plain
+pub tell_broken-requires : goal.tell_broken-requires
+tell_broken-requires c = place_in_word (ap (λ (a : ListSlot). a.place) c.in-Err.ensures.answer) (slot_place_le _ _)

@@ -9,16 +9,14 @@ use Rattle.laws.proofs.PartLaws.{block_more}
 use Rattle.plan.specs.facts.Told.{Plan}
 use Rattle.plan.proofs.PlaceLaws.{make_place_le}
 use Rattle.plan.proofs.PlannerMeans.{make_demands}
-use Rattle.sunderwath.proofs.CallLaws.{plain_in_words}
+use Rattle.sunderwath.proofs.CallLaws.{place_in_word}
 use Rattle.sunderwath.proofs.plans.sunderwath_plan_make.Goals as goal
 
 pub returns-then-answer-lt-PLAN_WORDS-clause-demands : goal.returns-then-answer-lt-PLAN_WORDS-clause-demands
 returns-then-answer-lt-PLAN_WORDS-clause-demands c = make_demands c.args.list.now
 
-pub tell-told-requires : goal.tell-told-requires
-tell-told-requires c =
-    let e = c.in-Err.ensures in
-    plain_in_words c.in-Err.refusal (ap (λ (p : Plan). p.place) e.answer) (make_place_le c.args.list.now) e.plain
+pub tell_broken-requires : goal.tell_broken-requires
+tell_broken-requires c = place_in_word (ap (λ (p : Plan). p.place) c.in-Err.ensures.answer) (make_place_le c.args.list.now)
 
 pub returns-in-Ok-clause-answer : goal.returns-in-Ok-clause-answer
 returns-in-Ok-clause-answer c =
@@ -33,10 +31,10 @@ returns-in-Ok-clause-answer c =
 pub returns-in-Err-clause-answer : goal.returns-in-Err-clause-answer
 returns-in-Err-clause-answer c =
     let e = c.in-Err.ensures in
-    let t = c.tell-told.result in
+    let t = c.tell_broken.result in
     let enough = le-ltb _ _ c.if-answer-lt-PLAN_WORDS.false in
     let whole =
-    block_more 3 32 (t.number ∷ t.place ∷ 0 ∷ []) (replicate 32 0) c.args.answer.now c.put_front-in-Err.new.answer
-    c.put_front-in-Err-2.new.answer refl c.put_front-in-Err.ensures c.put_front-in-Err-2.ensures in
-    let same = c.tell-told.ensures in
+    block_more 3 32 (t.number ∷ t.place ∷ 0 ∷ []) (replicate 32 0) c.args.answer.now c.put_refused-number.new.answer
+    c.put_front-in-Err.new.answer refl c.put_refused-number.ensures.answer c.put_front-in-Err.ensures in
+    let same = c.tell_broken.ensures in
     rw (← e.answer, enough) (rw (ap (λ (f : Fault). f.number) same, ap (λ (f : Fault). f.place) same) at whole)

@@ -4,14 +4,13 @@ use mathlib.Core.Path.{ap}
 use Rattle.affinity.specs.facts.Told.{ListSlot}
 use Rattle.plan.proofs.SlotMeans.{slot_demands}
 use Rattle.plan.proofs.PlaceLaws.{slot_place_le}
-use Rattle.sunderwath.proofs.CallLaws.{plain_in_words}
+use Rattle.sunderwath.proofs.CallLaws.{place_in_word}
 use Rattle.sunderwath.proofs.plans.sunderwath_plan_slot.Goals as goal
 
 pub returns-then-answer-lt-SLOT_WORDS-clause-demands : goal.returns-then-answer-lt-SLOT_WORDS-clause-demands
 returns-then-answer-lt-SLOT_WORDS-clause-demands c = slot_demands c.args.list.now c.args.positions.now c.args.mpidr
 
-pub tell-told-requires : goal.tell-told-requires
-tell-told-requires c =
+pub tell_broken-requires : goal.tell_broken-requires
+tell_broken-requires c =
     let a = c.args in
-    let e = c.in-Err.ensures in
-    plain_in_words c.in-Err.refusal (ap (λ (s : ListSlot). s.place) e.answer) (slot_place_le a.list.now a.positions.now a.mpidr) e.plain
+    place_in_word (ap (λ (s : ListSlot). s.place) c.in-Err.ensures.answer) (slot_place_le a.list.now a.positions.now a.mpidr)
