@@ -1,6 +1,7 @@
 // SPDX-License-Identifier: BSD-2-Clause OR GPL-2.0-or-later
 // Lists of MPIDRs.
 use crate::{input, say};
+use laws::Refusal;
 use std::io;
 
 // Room for an MPIDR more than the limit allows.
@@ -18,9 +19,9 @@ pub fn list(rt: &(impl Input + Print)) -> io::Result<()> {
 
 // The number and the place of the hash, then the slot's answer with the hash.
 fn ask(rt: &(impl Input + Print), mpidr: u64, list: &[u64]) -> io::Result<()> {
-    let hash = affinity::list_hash(list);
+    let hash = affinity::list_hash(list).map_err(Refusal::from);
     say::rule(rt, hash.into())?;
-    let slot = affinity::list_slot(mpidr, list);
+    let slot = affinity::list_slot(mpidr, list).map_err(Refusal::from);
     say::answer(
         rt,
         slot.into(),
