@@ -10,7 +10,7 @@ fn word_sized(words: &[u32])
     ensures { (i : ℕ) → get_or words.now i 0 < 2 ^ 32 }
 {}
 
-// Bytes have 8 bits.
+// Bytes have 8 bits. A function of its own: the bound goes with the type.
 fn byte_sized(bytes: &[u8])
     ensures { (i : ℕ) → get_or bytes.now i 0 < 256 }
 {}

@@ -49,7 +49,7 @@ pub fn words(rt: &impl Input, table: &mut [u32]) -> usize
     count
 }
 
-// The same for bytes.
+// The same for bytes, which are read at once.
 pub fn bytes(rt: &impl Input, table: &mut [u8]) -> usize
     ensures within { result ≤ length table.new }
     ensures whole { result ≡ length (take result table.new) }

@@ -16,7 +16,7 @@ pub const NO_HASH: Hash = Hash {
     bits: 0,
 };
 
-// What is told of an answer, whatever it holds where no rule is broken: the rule's number and place, and the property's number.
+// What is told of an answer, in the library's own numbers (the calls for C tell words), whatever it holds where no rule is broken: the rule's number and place, and the property's number.
 #[derive(Clone, Copy)]
 pub struct Told {
     pub number: u32,

@@ -5,7 +5,7 @@ ghost use Rattle.cpumap.specs.answers.Number.{kind_number, topology_number};
 
 use names::TopologyName;
 
-// A kind as a number, from 1; 0 for Other.
+// A kind as a number, from 1; 0 for Other: the definition `kind_number` and the program `cases` tell these.
 pub fn kind_number(name: TopologyName) -> u32
     ensures { result ≡ kind_number name }
 {

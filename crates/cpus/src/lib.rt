@@ -21,14 +21,16 @@ pub enum Cells {
     Two,
 }
 
-// What is read of record 0: whether it keeps rules 9, 36 and 37, and the cells of the board's `reg`s.
+// What is read of record 0: whether it keeps rules 9, 36 and 37, and the cells of the board's `reg`s, which `read_root` promises of a
+// refused one, too.
 #[derive(Clone, Copy)]
 pub struct RootReading {
     pub checked: Result<(), Refusal>,
     pub cells: Cells,
 }
 
-// The number of each cpu record to gather: its `reg`, of so many cells on a board of a width, or its phandle.
+// The number of each cpu record to gather: its `reg`, of so many cells on a board of a width, or its phandle. No closure: the definitions
+// (`reading_from`) have these two cases.
 #[derive(Clone, Copy)]
 pub enum CpuNumbers {
     Regs { cells: Cells, width: u32 },

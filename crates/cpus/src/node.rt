@@ -3,7 +3,7 @@
 ghost use Rattle.std.specs.Prelude.{◌≡◌};
 ghost use Rattle.cpus.specs.answers.Check.{is_cpu_name, is_cpu};
 
-use tables::{Tables, binding, cell_at, is_child, node_word, range_is};
+use tables::{Tables, is_child, node_word, range_is};
 
 // Whether a name is `cpu` or begins `cpu@`.
 fn is_cpu_name(pool: &[u8], offset: usize, len: usize) -> bool
@@ -12,7 +12,7 @@ fn is_cpu_name(pool: &[u8], offset: usize, len: usize) -> bool
     if len < 4 {
         return range_is(pool, offset, len, b"cpu");
     }
-    cell_at(pool, offset) == binding::CPU_UNIT
+    range_is(pool, offset, 4, b"cpu@")
 }
 
 // Whether record i is a cpu record.

@@ -16,10 +16,10 @@ pub const MAX_NODE_NAME: usize = 64;
 // Bytes of a property's name.
 pub const MAX_PROPERTY_NAME: usize = 31;
 
-// The parent word of record 0.
+// The parent word of record 0, as the tables have it.
 pub const NO_PARENT: usize = 0xFFFFFFFF;
 
-// The second place where no property is told of.
+// The second place where no property is told of, as C reads it.
 pub const NO_PROPERTY: usize = 0xFFFFFFFF;
 
 // Cpu records of a board, and MPIDRs of a list.

@@ -11,7 +11,7 @@ pub const ROW_WORDS: usize = 12;
 // The word of a row that holds its slot.
 pub const SLOT_WORD: usize = 11;
 
-// What a row holds where the map states nothing.
+// What a row holds where the map states nothing: a word that C reads.
 pub const GAP: u32 = 0xFFFFFFFF;
 
 // What a row holds, in the order of its words.
@@ -35,6 +35,7 @@ pub fn put_row(part: &mut [u32], row: Row)
     if part.len() < ROW_WORDS {
         return;
     }
+    // One by one, so that each word is seen with its number.
     part[0] = row.leaf;
     part[1] = row.cpu;
     part[2] = row.upper;

@@ -7,6 +7,7 @@ ghost use Rattle.names.specs.facts.Kind.{Says};
 ghost use Rattle.names.specs.answers.Name.{number_of, name_of};
 ghost use Rattle.names.specs.steps.Name.{number_after};
 
+// What a name says. Other, and no Option of a name: the facts (`Says`) speak of five kinds.
 #[derive(Clone, Copy)]
 pub enum TopologyName {
     Socket(u32),

@@ -30,6 +30,6 @@ impl Key {
 // How many keys there are.
 const KEYS: usize = 4;
 
-// The words of an index of properties: four for each of 1,024 records. Memory is fixed, and an Option of a word takes twice that of a
-// word with 0 for none.
+// The words of an index of properties: four for each of 1,024 records. The array is lent beside the tables, since there is no heap; a struct
+// of both would be no plainer: clauses would speak of `indexed.now.tables.now.props.now`.
 pub const INDEX_WORDS: usize = 4096;

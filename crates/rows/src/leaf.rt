@@ -61,6 +61,7 @@ pub fn row_of(tables: &Tables, above: Placed, leaf: usize, named: NamedCpu) -> R
     let name = topology_name(tables, leaf);
     let position = leaf_position(tables, leaf, name, above.position);
     let path = position.clusters.numbers;
+    // An `as` takes no number that does not fit: remainders and quotients, as the definition `row_of` has them.
     Row {
         leaf: (leaf % 4294967296) as u32,
         cpu: (named.cpu % 4294967296) as u32,

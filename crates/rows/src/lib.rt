@@ -12,6 +12,7 @@ pub use slots::slots_for;
 pub use write::write_rows;
 
 // What the rows are made of: the cpu records and their `reg`s, the leaves, and for each the index of the cpu record that it names.
+// Side by side in lent arrays: there is no heap, and an array of pairs would take 8 bytes more for each cpu.
 #[derive(Clone, Copy)]
 pub struct Lists<'a> {
     pub cpus: &'a [u16],
@@ -27,7 +28,8 @@ struct Placed {
     pub position: Position,
 }
 
-// How the slots of a board are made: by its number, and by the hash of its MPIDRs.
+// How the slots of a board are made: by its number, and by the hash of its MPIDRs. No Option of a hash: `slots_for` promises the hash of
+// every width.
 #[derive(Clone, Copy)]
 pub struct BoardSlots {
     pub width: u32,

@@ -17,6 +17,7 @@ fn enter_rows(table: &mut [u32], rows: &[u32], size: usize)
     for (k, row) in rows.chunks_exact(ROW_WORDS).enumerate() {
         let slot = row[SLOT_WORD] as usize;
         if slot < size {
+            // An `as` takes no number that does not fit; the definition `entered_below` has the remainder.
             table[slot] = (k % 4294967296) as u32;
         }
     }

@@ -22,7 +22,7 @@ pub struct Walk {
     pub props: usize,
 }
 
-// What follows a token: the walk goes on, or it has come to its end, or it breaks at a place.
+// What follows a token: the walk goes on, or it has come to its end, or it breaks at a place. Three ways, so no Result.
 #[derive(Clone, Copy)]
 pub enum Next {
     On(Walk),

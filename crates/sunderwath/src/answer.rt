@@ -85,6 +85,7 @@ pub fn put_answer(answer: &mut [u32], told: Told, third: u32, hash: Hash) -> u32
     ensures answer { answer.new ≡ answer_after answer.old (answer_words told.number told.place told.second third hash) }
 {
     let [a, b, c, d] = hash.shifts;
+    // An `as` takes no number that does not fit.
     let low = (hash.mask % 4294967296) as u32;
     let high = (hash.mask / 4294967296) as u32;
     put_front(

@@ -12,7 +12,8 @@ pub use token::token_at;
 pub use zero::{behind_zero, zero_from};
 
 // What reading a token finds: a node name's length, a property name's offset in the strings block, a value's size, and where the next
-// token stands. Close, Nop and End take four bytes. Unsound: no token stands there.
+// token stands. Close, Nop and End take four bytes. Unsound: no token stands there; no Option, since the definitions (`token_read`) have six
+// cases.
 #[derive(Clone, Copy)]
 pub enum TokenRead {
     Begin {

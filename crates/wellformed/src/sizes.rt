@@ -18,6 +18,7 @@ fn width_fault(width: u32) -> Result<(), Rule>
     }
 }
 
+// Apart from `prop_words_fault`: they differ in size, limit and number, and in whether none is allowed.
 fn node_words_fault(words: usize) -> Result<(), Rule>
     ensures { number_in result ≡ node_words_fault words }
 {

@@ -1,12 +1,11 @@
 -- SPDX-License-Identifier: BSD-2-Clause OR GPL-2.0-or-later
--- `is_cpu_name` meets its contract: a name of four bytes or more is not `cpu`, and its first four are tested as a cell. Assumes nothing.
+-- `is_cpu_name` meets its contract: a name of four bytes or more is not `cpu`. Assumes nothing.
 use mathlib.Core.Path.{◌≡◌, refl, ◌∙◌}
 use mathlib.Core.Bool.{Bool, true, false, cond}
 use native.Mathlib.Omega.{arith}
 use borrow.Author.Tests.{lt-ltb, le-ltb}
 use Rattle.tables.specs.answers.Range.{range_is}
 use Rattle.tables.proofs.CodePool.{other_length}
-use Rattle.tables.proofs.CellLaws.{cell_is}
 use Rattle.tables.specs.facts.Binding.{cpu_word}
 use Rattle.cpus.specs.answers.Check.{is_cpu_name}
 use Rattle.cpus.proofs.node.is_cpu_name.Goals as goal
@@ -26,5 +25,4 @@ returns c =
     let a = c.args in
     let not_short : false ≡ range_is a.pool.now a.offset a.len cpu_word =
     other_length a.pool.now a.offset a.len cpu_word (λ e. omega (arith, e, c.if-len-lt4.false)) in
-    rw (← not_short, le-ltb _ _ c.if-len-lt4.false, c.cell_at.ensures)
-    (cell_is a.pool.now a.offset 1668314432 (λ i. omega (arith, c.type_inv.pool i)) (omega arith) (λ z. omega (arith, z)))
+    rw (← not_short, le-ltb _ _ c.if-len-lt4.false) c.range_is-2.ensures
