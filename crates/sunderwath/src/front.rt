@@ -7,7 +7,7 @@ pub fn put_front(answer: &mut [u32], words: &[u32])
     requires { length words.now ≤ length answer.old }
     ensures { answer.new ≡ words.now ++ drop (length words.now) answer.old }
 {
-    // No `copy_from_slice`: the archive calls no memcpy.
+    // No `copy_from_slice`: it calls memmove, and the archive is to call memset alone.
     for (i, word) in words.iter().enumerate() {
         answer[i] = *word;
     }
