@@ -48,7 +48,8 @@ pub fn list_mask(list: &[u64]) -> Result<u64, Broken>
     Ok(bits.mask)
 }
 
-// The lowest index with a bit outside the affinity bits.
+// The lowest index with a bit outside the affinity bits. A loop over the items: `first_broken` of laws tests places, of which a proof knows no
+// item.
 fn first_outside(list: &[u64]) -> Result<(), Broken>
     ensures { broken_in result ≡ first_outside list.now }
 {

@@ -17,7 +17,8 @@ fn behind_close(at: usize, end: usize, top: usize, count: usize) -> usize
     if 0 < top && top < count { at + 4 } else { end }
 }
 
-// Fills both tables from their fronts; they have room for all records. The strings block begins at `base`.
+// Fills both tables from their fronts; they have room for all records. The strings block begins at `base`. The blocks are slices of the
+// lent blob, so the limit of 65,536 bytes is asked of each: a struct of both would be taken apart in every line.
 pub fn fill(
     block: &[u8],
     first: usize,
@@ -40,6 +41,7 @@ pub fn fill(
     let mut top = NO_PARENT;
     let mut count: usize = 0;
     let mut owned: usize = 0;
+    // The next place comes from the token: no index is counted.
     while at < block.len() {
         match known_at(block, strings.len(), at) {
             TokenRead::Begin { len, next } => {

@@ -14,7 +14,7 @@ use laws::Refusal;
 use tables::Tables;
 
 // Reads a board's tables, for a row buffer of `room` words elsewhere. The first `words` words of `table` are the property table; where no rule
-// is broken the rows are written over it.
+// is broken the rows are written over it. A count beside the table, since the rows may need more of it: there is no heap.
 pub fn read_in_place(
     width: u32,
     nodes: &[u32],

@@ -8,6 +8,7 @@ use std::io::Read;
 // Fills bytes as far as the input goes; those behind its end, or behind a read that failed, stay as they were.
 fn fill(rt: &impl Input, bytes: &mut [u8]) {
     let mut at: usize = 0;
+    // A read gives as many bytes as it will: no index is counted.
     while at < bytes.len() {
         match rt.reader().read(&mut bytes[at..]) {
             Ok(0) => return,

@@ -12,6 +12,7 @@ mod say;
 use boards::Asked;
 use std::io;
 
+// The kinds of a case, as standard input has them. No enum: each is matched once.
 const BOARD: u32 = 0;
 
 const LIST: u32 = 1;

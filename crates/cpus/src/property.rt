@@ -36,6 +36,7 @@ fn cells_at(pool: &[u8], cells: Cells, at: usize) -> u64
     let first = u64::from(cell_at(pool, at));
     match cells {
         Cells::One => first,
+        // As the definition `cells_at` has it.
         Cells::Two => first * 4294967296 + u64::from(cell_at(pool, at + 4)),
     }
 }

@@ -72,7 +72,7 @@ fn read_phandle(tables: &Tables, index: &[u16; INDEX_WORDS], i: usize) -> Result
     })
 }
 
-// The number of a cpu record, or what the record alone breaks.
+// The number of a cpu record, or what the record alone breaks. That the place is i stands in a clause: a type can't know the argument.
 pub fn read_record(
     wanted: CpuNumbers,
     tables: &Tables,

@@ -14,7 +14,7 @@ use laws::{Refusal, Rule};
 use property_index::INDEX_WORDS;
 use tables::Tables;
 
-// The first of a list of cpu records that breaks rule 26: its index in the list is not marked.
+// The first of a list of cpu records that breaks rule 26: its index in the list is not marked. No `first_broken`: what is told is the record.
 fn first_unmapped(records: &[u16], marks: &[bool]) -> Result<(), Refusal>
     ensures { let list = records.now in
         told_in result ≡ fault_of_member list (first_fault (unmarked_fault marks.now) (length list)) }

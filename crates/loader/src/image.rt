@@ -55,6 +55,7 @@ pub fn read_image(width: u32, blob: &[u8], rows: &mut [u8]) -> Result<BoardRows,
     ensures words { Words (board_told result) }
     ensures demands { ImageDemands width blob.now rows.old (board_told result) rows.new }
 {
+    // Fixed memory, and counts beside it: there is no heap.
     let mut nodes = [0u32; NODE_ROOM];
     let mut table = [0u32; PROPERTY_ROOM];
     let found = blob::read_blob(blob, &mut nodes, &mut table)?;

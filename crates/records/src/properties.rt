@@ -32,6 +32,7 @@ pub fn first_property_fault(count: usize, props: &[u32], pool: &[u8]) -> Result<
     ensures { let table = props.now in
         broken_in result ≡ first_fault (property_fault count table pool.now) (prop_count table) }
 {
+    // No `first_broken`: a table is carried from turn to turn.
     let mut starts = [NO_START; PLACES];
     for k in 0..props.len() / 5 {
         let own = 5 * k;
