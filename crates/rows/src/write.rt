@@ -11,7 +11,7 @@ use cpumap::position_of;
 use layout::{ROW_WORDS, put_row};
 use tables::{Tables, node_word};
 
-// An element of a list, 0 outside it.
+// An element of a list, 0 outside it, as the definition `named_cpu` has it.
 fn record_at(list: &[u16], k: usize) -> usize
     ensures { result ≡ get_or list.now k 0 }
 {

@@ -14,7 +14,7 @@ pub use property::{found_at, is_property, record_of};
 pub use tree::{is_below, is_child, name_is, parent_of};
 pub use words::{node_word, prop_word, wide};
 
-// The three tables.
+// The three tables. The width is apart, since most of what reads tables does not ask for it.
 #[derive(Clone, Copy)]
 pub struct Tables<'a> {
     pub nodes: &'a [u32],

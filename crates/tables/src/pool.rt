@@ -4,7 +4,8 @@ ghost use Rattle.std.specs.Prelude.{◌≡◌, ◌+◌, leb};
 ghost use Rattle.tables.specs.answers.Range.{range_is};
 ghost use Rattle.tables.specs.facts.Property.{cell_at};
 
-// Whether a range lies inside a pool of so many bytes. The sum of offset and length is not formed: it may wrap.
+// Whether a range lies inside a pool of so many bytes. The sum of offset and length is not formed: it may wrap. The two are no struct, since
+// callers have them as words of a record and would put them together for this call.
 pub fn is_inside(bytes: usize, offset: usize, len: usize) -> bool
     ensures { result ≡ leb (offset + len) bytes }
 {
@@ -18,7 +19,7 @@ pub fn range_is(pool: &[u8], offset: usize, len: usize, bytes: &[u8]) -> bool
     len == bytes.len() && is_inside(pool.len(), offset, len) && &pool[offset..offset + len] == bytes
 }
 
-// The cell that starts at a byte of the pool, 0 where it leaves the pool.
+// The cell that starts at a byte of the pool, 0 where it leaves the pool, as its definition has it.
 pub fn cell_at(pool: &[u8], at: usize) -> u32
     ensures { result ≡ cell_at pool.now at }
 {

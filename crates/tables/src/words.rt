@@ -9,7 +9,7 @@ pub fn wide(word: u32) -> usize
     word as usize
 }
 
-// A word of record i, each of so many words, 0 outside the table. A place that would wrap is outside every table, as is the largest.
+// A word of record i, each of so many words, 0 outside the table, as the definitions have it. A place that would wrap is outside every table, as is the largest.
 fn record_word<const WORDS: usize>(table: &[u32], i: usize, field: usize) -> usize
     ensures { result ≡ get_or table.now (WORDS * i + field) 0 }
 {

@@ -5,7 +5,7 @@ ghost use Rattle.wire.specs.answers.Read.{number_at};
 
 use crate::NUMBER_BYTES;
 
-// The number in the eight bytes from `at` on; 0 where there are fewer.
+// The number in the eight bytes from `at` on; 0 where there are fewer, as its definition has it.
 pub fn number_at(bytes: &[u8], at: usize) -> u64
     ensures { result ≡ number_at bytes.now at }
 {
