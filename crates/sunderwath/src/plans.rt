@@ -91,7 +91,7 @@ pub extern "C" fn sunderwath_plan_make(list: &[u64], answer: &mut [u32]) -> u32
         }
         Err(broken) => {
             let number = put_refused(answer, tell_broken(broken));
-            put_front(&mut answer[BEFORE_POSITIONS..], &[0; 32]);
+            answer[BEFORE_POSITIONS..PLAN_WORDS].fill(0);
             number
         }
     }

@@ -1,8 +1,11 @@
 -- SPDX-License-Identifier: BSD-2-Clause OR GPL-2.0-or-later
 -- `sunderwath_plan_make` writes what the library answers: three words, and behind them the positions. Assumes nothing.
-use mathlib.Core.Path.{ap, refl}
-use mathlib.Core.List.{[], ◌∷◌}
-use lib.ListN.{length, replicate}
+use mathlib.Core.Path.{ap, refl, ◌∙◌}
+use mathlib.Core.List.{[], ◌∷◌, ◌++◌}
+use Prim.Native.Nat.{◌≤◌}
+use native.Mathlib.Omega.{arith}
+use lib.ListN.{length, replicate, drop, length-drop}
+use lib.Seq.{length-take-le, drop-drop}
 use borrow.Author.Tests.{le-ltb}
 use Rattle.laws.specs.facts.Told.{Fault}
 use Rattle.laws.proofs.PartLaws.{block_more}
@@ -30,11 +33,11 @@ returns-in-Ok-clause-answer c =
 
 pub returns-in-Err-clause-answer : goal.returns-in-Err-clause-answer
 returns-in-Err-clause-answer c =
-    let e = c.in-Err.ensures in
-    let t = c.tell_broken.result in
     let enough = le-ltb _ _ c.if-answer-lt-PLAN_WORDS.false in
-    let whole =
-    block_more 3 32 (t.number ∷ t.place ∷ 0 ∷ []) (replicate 32 0) c.args.answer.now c.put_refused-number.new.answer
-    c.put_front-in-Err.new.answer refl c.put_refused-number.ensures.answer c.put_front-in-Err.ensures in
-    let same = c.tell_broken.ensures in
-    rw (← e.answer, enough) (rw (ap (λ (f : Fault). f.number) same, ap (λ (f : Fault). f.place) same) at whole)
+    let now = c.args.answer.now in
+    let room : 32 ≤ length (drop 3 now) = simp length-drop (omega arith) in
+    let zeroed = rw (c.put_refused-number.ensures.answer, length-take-le 32 (drop 3 now) room) at (c.fill.ensures.after (λ y h. h)) in
+    let told = c.tell_broken.result in
+    let behind = ap (λ rest. told.number ∷ told.place ∷ 0 ∷ (replicate 32 0 ++ rest)) (drop-drop 32 3 now) in
+    let front = ap (λ (a : Fault). a.number ∷ a.place ∷ 0 ∷ (replicate 32 0 ++ drop 35 now)) c.tell_broken.ensures in
+    rw (← c.in-Err.ensures.answer, enough) (rw (zeroed, c.put_refused-number.ensures.answer) (behind ∙ front))
