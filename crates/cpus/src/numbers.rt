@@ -66,8 +66,9 @@ pub fn read_numbers(
         values.new ≡ numbers_over read (repeat_rule wanted) cut values.old }
 {
     let n = records.len().min(values.len());
-    for k in 0..n {
-        let i = usize::from(records[k]);
+    // No `first_broken`: the values are written on the way. By index, since the earlier ones are read while the next is written.
+    for (k, record) in records[..n].iter().enumerate() {
+        let i = usize::from(*record);
         let found = next_reading(wanted, tables, index, &values[..k], i)?;
         values[k] = found.value;
     }

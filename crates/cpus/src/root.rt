@@ -81,6 +81,7 @@ pub fn list_cpus(tables: &Tables, records: &mut [u16; MAX_CPUS]) -> usize
         records.new ≡ laid_over (list_below (is_cpu t.nodes.now t.pool.now) (min (node_count t.nodes.now) max_nodes)) records.old }
 {
     let n = (tables.nodes.len() / 3).min(MAX_NODES);
+    // Counted by hand: the count is the next index and, past the room too, the answer.
     let mut count: usize = 0;
     for i in 0..n {
         if is_cpu(tables, i) {
