@@ -1,5 +1,6 @@
 // SPDX-License-Identifier: BSD-2-Clause OR GPL-2.0-or-later
 // The cpu map: its place, rules 15 and 16; what its records' names say; and where a record stands: its socket and clusters.
+// A record is a number, no struct with its tables: the definitions name it so, and loops step it. The map is found once, for two crates' functions.
 #![tactic(auto)]
 
 mod find;
@@ -15,7 +16,7 @@ pub use path::topology_name;
 pub use positions::position_of;
 
 // A cluster path: four numbers, outermost first, 0xFFFFFFFF where unused, and how many are used.
-// An array with a length beside it, as the row has its four words: fixed memory without a heap.
+// An array with a length beside it, and 0xFFFFFFFF in what is unused, as the row has its four words: fixed memory without a heap.
 #[derive(Clone, Copy)]
 pub struct ClusterPath {
     pub numbers: [u32; 4],

@@ -18,7 +18,7 @@ pub fn kind_number(name: TopologyName) -> u32
     }
 }
 
-// The number in a topology name, 0 where it is none.
+// The number in a topology name, 0 where it is none: the definition `topology_number` and the program `cases` tell it so.
 pub fn topology_number(name: TopologyName) -> u32
     ensures { result ≡ topology_number name }
 {

@@ -5,8 +5,9 @@ ghost use Rattle.cpumap.specs.answers.Number.{is_numbered};
 ghost use Rattle.cpumap.specs.answers.Path.{topology_name};
 ghost use Rattle.cpumap.specs.steps.LastDigit.{ends_otherwise};
 
-use crate::number::{kind_number, topology_number};
+use crate::number::topology_number;
 use crate::path::topology_name;
+use names::TopologyName;
 use tables::{Tables, is_inside, node_word};
 
 // Whether the name of record i lies inside the pool and ends in another byte than the last digit of n.
@@ -30,5 +31,5 @@ pub fn has_number(tables: &Tables, i: usize, n: u32) -> bool
         return false;
     }
     let name = topology_name(tables, i);
-    kind_number(name) != 0 && topology_number(name) == n
+    !matches!(name, TopologyName::Other) && topology_number(name) == n
 }
