@@ -1,6 +1,6 @@
 -- SPDX-License-Identifier: BSD-2-Clause OR GPL-2.0-or-later
 -- What the proofs of the code cite of the definitions. Assumes nothing.
-use mathlib.Core.Path.{◌≡◌, sym, ap, ◌∙◌}
+use mathlib.Core.Path.{◌≡◌, refl, sym, ap, ◌∙◌}
 use mathlib.Core.Bool.{Bool, true, false}
 use mathlib.Core.List.{List}
 use Prim.Native.Nat.{ℕ, ◌+◌, ◌≤◌, ◌<◌}
@@ -8,6 +8,7 @@ use native.Mathlib.Omega.{arith}
 use borrow.Author.Tests.{le-ltb, eq-eqb, ne_eqb}
 use Rattle.laws.specs.answers.Fault.{or_number}
 use Rattle.names.specs.declared.TopologyName.{TopologyName}
+use Rattle.names.specs.declared.TopologyName.TheVariants.{Socket, Cluster, Core, Thread, Other}
 use Rattle.tables.specs.facts.Board.{node_count, parent_word}
 use Rattle.tables.specs.answers.Tree.{is_child, is_below}
 use Rattle.tables.specs.facts.Tree.{Child, Ancestor}
@@ -32,6 +33,14 @@ below_later nodes a i h = go (below_ancestor nodes a i h)
 pub no_child : (nodes : List ℕ) (i : ℕ) → node_count nodes ≤ i → false ≡ has_child nodes i
 unfolding has_child is_child
 no_child nodes i h = rw (le-ltb (i + 1) (node_count nodes) (omega arith))
+
+-- only the kind of Other is 0
+pub zero_other : (name : TopologyName) → kind_number name ≡ 0 → name ≡ Other
+zero_other (Socket n) e = absurd (omega (arith, e))
+zero_other (Cluster n) e = absurd (omega (arith, e))
+zero_other (Core n) e = absurd (omega (arith, e))
+zero_other (Thread n) e = absurd (omega (arith, e))
+zero_other Other e = refl
 
 -- rules 19 to 23 at a record below the map, whose parent is p
 pub named_fault :

@@ -11,7 +11,7 @@ ghost use Rattle.topology.specs.answers.Check.{is_leaf_name, map_record_fault, m
 use crate::kind::kind_fault;
 use crate::shape::{group_fault, has_child, shape_fault};
 use crate::siblings::number_fault;
-use cpumap::{kind_number, topology_name, topology_number};
+use cpumap::{topology_name, topology_number};
 use laws::Rule;
 use names::TopologyName;
 use tables::{Tables, is_below, node_word};
@@ -22,7 +22,7 @@ fn map_record_fault(tables: &Tables, map: usize, i: usize, name: TopologyName) -
         (i < node_count table) × (parent_word table i < i) }
     ensures { number_in result ≡ map_record_fault tables.now.nodes.now tables.now.pool.now map i name }
 {
-    if kind_number(name) == 0 {
+    if matches!(name, TopologyName::Other) {
         return Err(Rule::CpuMapName);
     }
     let p = node_word(tables.nodes, i, 0);
@@ -56,7 +56,7 @@ fn map_record_shape(tables: &Tables, map: usize, i: usize, name: TopologyName) -
 fn outside_fault(name: TopologyName) -> Result<(), Rule>
     ensures { number_in result ≡ cond (eqb (kind_number name) 0) 0 18 }
 {
-    if kind_number(name) == 0 {
+    if matches!(name, TopologyName::Other) {
         return Ok(());
     }
     Err(Rule::TopologyOutsideMap)

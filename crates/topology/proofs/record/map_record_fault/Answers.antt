@@ -1,26 +1,35 @@
 -- SPDX-License-Identifier: BSD-2-Clause OR GPL-2.0-or-later
 -- `map_record_fault` meets its contract: 19, and else the first of 20 to 23. Assumes nothing.
-use mathlib.Core.Path.{◌≡◌, refl, sym, ap, ◌∙◌}
+use mathlib.Core.Path.{◌≡◌, refl, ap, ◌∙◌}
 use Prim.Native.Nat.{ℕ, ◌*◌}
-use borrow.Author.Tests.{eq-eqb}
 use Rattle.std.proofs.lemmas.Result.{err_from_is_err_and}
 use Rattle.laws.specs.answers.Fault.{or_number}
 use Rattle.laws.proofs.PassLaws.{or_told, or_next}
+use Rattle.laws.proofs.SearchLaws.{true_false}
 use Rattle.laws.proofs.ToldLaws.{rule_counts}
+use Rattle.names.specs.declared.TopologyName.TheVariants.{Other}
 use Rattle.tables.specs.facts.Board.{parent_word}
 use Rattle.tables.proofs.CodePool.{word_zero}
 use Rattle.cpumap.specs.answers.Number.{topology_number}
 use Rattle.topology.specs.answers.Check.{kind_fault, shape_fault, map_record_fault}
 use Rattle.topology.specs.answers.Siblings.{number_fault}
-use Rattle.topology.proofs.CodeLaws.{named_fault}
+use Rattle.topology.proofs.CodeLaws.{zero_other, named_fault}
 use Rattle.topology.proofs.record.map_record_fault.Goals as goal
-use Rattle.topology.proofs.record.map_record_fault.Goals.{After-node_word-p, After-number_fault}
+use Rattle.topology.proofs.record.map_record_fault.Goals.{After-node_word-p, After-number_fault, in-Other, in_default}
 
 -- the word read is the parent
 parent :
     (c : After-node_word-p) → let a = c.args in c.node_word-p.result ≡ parent_word a.tables.now.nodes.now a.i
 parent c =
     let a = c.args in c.node_word-p.ensures ∙ word_zero a.tables.now.nodes.now (3 * a.i)
+
+-- the name is one
+named : (c : After-node_word-p) → c.args.name ≡ Other → ⊥
+named c e =
+    elim c.match-matches.branch [
+      | in-Other w ↦ true_false w.matches-is c.if-matches.false
+      | in_default w ↦ w.in_default.not-Other e
+    ]
 
 rest :
     (c : After-node_word-p) →
@@ -34,11 +43,15 @@ rest :
 rest c =
     let a = c.args in
     named_fault a.tables.now.nodes.now a.tables.now.pool.now a.map a.i a.name
-    (λ e. c.if-kind_number-eq0.false (c.kind_number.ensures ∙ e)) (parent c)
+    (λ e. named c (zero_other a.name e)) (parent c)
 
-pub returns-then-kind_number-eq0 : goal.returns-then-kind_number-eq0
+pub returns-then-matches : goal.returns-then-matches
 unfolding map_record_fault
-returns-then-kind_number-eq0 c = rw (eq-eqb _ _ (sym c.kind_number.ensures ∙ c.if-kind_number-eq0.true))
+returns-then-matches c =
+    elim c.match-matches.branch [
+      | in-Other w ↦ rw w.in-Other.is refl
+      | in_default w ↦ true_false c.if-matches.true w.matches-is
+    ]
 
 pub returns-in_err-kind_fault : goal.returns-in_err-kind_fault
 returns-in_err-kind_fault c =
