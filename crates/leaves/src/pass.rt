@@ -22,7 +22,8 @@ pub fn is_marked(marks: &[bool], k: usize) -> bool
 }
 
 // How many leaves there are, or the first of rules 18 to 25 that is broken. The leaves up to the record that breaks one are
-// listed, and the cpus that they name listed and marked.
+// listed, and the cpus that they name listed and marked. The lists are lent, and the count is the answer: fixed memory without a heap, and
+// the clause `arrays` tells what the lists hold past the count.
 pub fn scan_records(
     tables: &Tables,
     index: &[u16; INDEX_WORDS],
@@ -41,6 +42,7 @@ pub fn scan_records(
         let t = tree tables.now.nodes.now at tables.now.pool.now map phandles.now in
         PassArrays t leaves.old named.old marks.new leaves.new named.new }
 {
+    // No `first_broken`, and counted by hand: the lists are filled on the way, and a record that is no leaf has no place in them.
     let mut count = 0;
     for i in 0..tables.nodes.len() / 3 {
         let Some(cpu) = record_check(tables, index, map, phandles, i)? else {

@@ -28,7 +28,7 @@ fn first_unmapped(records: &[u16], marks: &[bool]) -> Result<(), Refusal>
 }
 
 // Checks rules 18 to 26, and lists the leaves, and for each the index of the cpu record that it names. It looks at the first 1,024 records and
-// at the first 256 phandles.
+// at the first 256 phandles. The lists are lent, and the count is the answer: fixed memory without a heap.
 pub fn read_tree(
     tables: &Tables,
     index: &[u16; INDEX_WORDS],
