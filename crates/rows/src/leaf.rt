@@ -12,7 +12,7 @@ use layout::{GAP, Row};
 use names::TopologyName;
 use tables::{Tables, parent_of};
 
-// The number of a leaf's core: its own, or for a thread that of its parent p.
+// The number of a leaf's core: its own, or for a thread that of its parent p. GAP of any other name, as the definition `core_of` has it.
 fn core_of(tables: &Tables, name: TopologyName, p: usize) -> u32
     ensures { result ≡ core_of name (topology_name tables.now.nodes.now tables.now.pool.now p) }
 {
@@ -23,6 +23,7 @@ fn core_of(tables: &Tables, name: TopologyName, p: usize) -> u32
     }
 }
 
+// The number of a leaf that is a thread, else GAP: the word of the row that C reads.
 fn thread_of(name: TopologyName) -> u32
     ensures { result ≡ thread_of name }
 {

@@ -7,7 +7,7 @@ use crate::BoardSlots;
 use layout::GAP;
 use tables::boards;
 
-// The mask of MPIDRs; 0 of hart ids, of which no bit makes a slot.
+// The mask of MPIDRs; 0 of hart ids, of which no bit makes a slot, as the definition `mask_for` has it.
 fn mask_for(width: u32, regs: &[u64]) -> u64
     ensures { result ≡ mask_for width regs.now }
 {
@@ -27,7 +27,7 @@ pub fn slots_for(width: u32, regs: &[u64]) -> BoardSlots
     }
 }
 
-// The slot of the cpu with this `reg`.
+// The slot of the cpu with this `reg`, GAP of a hart id: the word of the row that C reads.
 pub fn slot_by(slots: BoardSlots, reg: u64) -> u32
     ensures { result ≡ slot_by slots reg }
 {

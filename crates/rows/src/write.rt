@@ -32,7 +32,7 @@ fn placed_at(tables: &Tables, p: usize, last: Placed) -> Placed
     }
 }
 
-// The cpu at an index of the cpu records and their `reg`s, with its slot. What a list does not have is 0.
+// The cpu at an index of the cpu records and their `reg`s, with its slot. What a list does not have is 0, as the definition has it.
 fn named_cpu(lists: &Lists, index: usize, slots: BoardSlots) -> NamedCpu
     ensures { result ≡ named_cpu lists.now.cpus.now lists.now.regs.now index slots }
 {
