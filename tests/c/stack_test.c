@@ -29,11 +29,11 @@
 
 /* The most that boards without long chains of records have needed. */
 #if defined(__aarch64__)
-#define ORDINARY_BYTES 16976
+#define ORDINARY_BYTES 16864
 #elif defined(__riscv)
-#define ORDINARY_BYTES 16904
+#define ORDINARY_BYTES 16776
 #else
-#define ORDINARY_BYTES 16968
+#define ORDINARY_BYTES 16840
 #endif
 
 /* Beside what reading its tables takes, the blob call needs the same stack for
