@@ -6,13 +6,13 @@ use demands::BoardRows;
 use std::io;
 use tables::Tables;
 
-// Room for a record, a row or a slot more than the limits allow.
+// Room for a record, a row or a slot more than the limits allow. Fixed memory, and counts beside it: there is no heap.
 const ROOM: usize = 20485;
 
-// Room for a byte more than the limit allows.
+// Room for a byte more than the limit allows. Fixed memory, as above.
 const POOL_ROOM: usize = 65537;
 
-// What is asked of a board: its rows alone, or a table of slots, too.
+// What is asked of a board: its rows alone, or a table of slots, too. An enum, no bool: each call names what it asks.
 #[derive(Clone, Copy)]
 pub enum Asked {
     Rows,

@@ -26,9 +26,9 @@ pub fn word(rt: &impl Input) -> u32 {
 
 // The upper word stands first.
 pub fn mpidr(rt: &impl Input) -> u64 {
-    let upper = word(rt);
-    let lower = word(rt);
-    (upper as u64) << 32 | lower as u64
+    let mut bytes = [0u8; 8];
+    fill(rt, &mut bytes);
+    u64::from_be_bytes(bytes)
 }
 
 // How many elements of a table are read: those that follow, as far as there is room.

@@ -4,7 +4,7 @@ use crate::{input, say};
 use laws::Refusal;
 use std::io;
 
-// Room for an MPIDR more than the limit allows.
+// Room for an MPIDR more than the limit allows. Fixed memory, and a count beside it: there is no heap.
 const LIST_ROOM: usize = 257;
 
 // The MPIDR whose slot is asked follows the list.

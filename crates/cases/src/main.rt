@@ -24,14 +24,14 @@ fn name(rt: &(impl Input + Print)) -> io::Result<()> {
     let mut bytes = [0u8; 96];
     let count = input::bytes(rt, &mut bytes);
     let name = names::name_of(&bytes[..count]);
-    say::number(rt, cpumap::kind_number(name) as u64)?;
-    say::number(rt, cpumap::topology_number(name) as u64)
+    say::number(rt, u64::from(cpumap::kind_number(name)))?;
+    say::number(rt, u64::from(cpumap::topology_number(name)))
 }
 
 // The first word is the number of cases, and the first of each case is its kind.
 fn main(rt: HostRuntime) -> io::Result<()> {
     let count = input::word(&rt);
-    say::number(&rt, count as u64)?;
+    say::number(&rt, u64::from(count))?;
     for _ in 0..count {
         match input::word(&rt) {
             BOARD => boards::board(&rt, Asked::Rows)?,

@@ -16,7 +16,8 @@ pub const NO_HASH: Hash = Hash {
     bits: 0,
 };
 
-// What is told of an answer, in the library's own numbers (the calls for C tell words), whatever it holds where no rule is broken: the rule's number and place, and the property's number.
+// What is told of an answer, in the library's own numbers (the calls for C tell words), whatever it holds where no rule is broken: the
+// rule's number and place, and the property's number.
 #[derive(Clone, Copy)]
 pub struct Told {
     pub number: u32,
@@ -53,14 +54,14 @@ pub fn number(rt: &(impl Input + Print), n: u64) -> io::Result<()> {
 
 pub fn words(rt: &(impl Input + Print), words: &[u32]) -> io::Result<()> {
     for word in words {
-        number(rt, *word as u64)?;
+        number(rt, u64::from(*word))?;
     }
     Ok(())
 }
 
 // The number of the rule that is broken, and its place; 0 and 0 where none is.
 pub fn rule(rt: &(impl Input + Print), told: Told) -> io::Result<()> {
-    number(rt, told.number as u64)?;
+    number(rt, u64::from(told.number))?;
     number(rt, told.place as u64)
 }
 
@@ -70,5 +71,5 @@ pub fn answer(rt: &(impl Input + Print), told: Told, third: usize, hash: Hash) -
     number(rt, third as u64)?;
     number(rt, hash.mask)?;
     words(rt, &hash.shifts)?;
-    number(rt, hash.bits as u64)
+    number(rt, u64::from(hash.bits))
 }
