@@ -9,7 +9,8 @@ pub use walking::survey;
 
 // Where a walk stands: the next token's offset, how many nodes are open, whether a property (or, outside every node, the root) may
 // come; 1 inside a child of the root named `cpus`, else 0; how many of these there are, where the last began, and what they hold.
-// `inside` is a number, as the specs have it: it is added up.
+// `inside` is a number, as the specs have it: it is added up. `first` is 0 where no `cpus` has begun, as walk_start has it;
+// `cpus` counts them, and blob reads `first` only where `cpus` is 1.
 #[derive(Clone, Copy, Default)]
 pub struct Walk {
     pub at: usize,

@@ -14,7 +14,7 @@ fn begun(block: &[u8], w: Walk, len: usize, next: usize) -> Walk
 {
     if w.depth == 1 {
         let is_cpus = range_is(block, w.at + 4, len, b"cpus");
-        let mark = is_cpus as usize;
+        let mark = usize::from(is_cpus);
         Walk {
             at: next,
             depth: 2,

@@ -9,8 +9,8 @@ pub returns-after-is_cpus : goal.returns-after-is_cpus
 unfolding begun cpus_mark
 returns-after-is_cpus c =
     elim c.if-is_cpus.branch [
-      | then-is_cpus w ↦ rw (eq-eqb _ _ c.if-w-eq1.true, ← c.range_is-is_cpus.ensures, w.if-is_cpus.true, w.result-is)
-      | else-is_cpus w ↦ rw (eq-eqb _ _ c.if-w-eq1.true, ← c.range_is-is_cpus.ensures, w.if-is_cpus.false, w.result-is)
+      | then-is_cpus w ↦ rw (eq-eqb _ _ c.if-w-eq1.true, ← c.range_is-is_cpus.ensures, c.from-mark.ensures, w.if-is_cpus.true, w.result-is)
+      | else-is_cpus w ↦ rw (eq-eqb _ _ c.if-w-eq1.true, ← c.range_is-is_cpus.ensures, c.from-mark.ensures, w.if-is_cpus.false, w.result-is)
     ]
 
 pub returns-else-w-eq1 : goal.returns-else-w-eq1
