@@ -13,6 +13,7 @@ const RUN_BYTES: usize = 512;
 pub const MAX_RUNS: usize = 128;
 
 // The first zero byte from a place on, or the end of the bytes. The table is right for the runs behind that of the place.
+// Where no byte is zero the answer is the length, no Option: the definition zero_from has it so.
 pub fn name_end(bytes: &[u8], ends: &[u32; MAX_RUNS], at: usize) -> usize
     requires size { length bytes.now ≤ 65536 }
     requires ends { EndsFrom bytes.now ends.now (at / 512 + 1) }

@@ -38,7 +38,9 @@ pub fn fill(
     let mut ends = [0u32; MAX_RUNS];
     note_ends(strings, &mut ends);
     let mut at = first;
+    // No node is open: fill_start says it so, and a record's parent word holds the same number.
     let mut top = NO_PARENT;
+    // How many records of each table are filled. Fixed memory, and counts beside it: there is no heap.
     let mut count: usize = 0;
     let mut owned: usize = 0;
     // The next place comes from the token: no index is counted.

@@ -10,6 +10,7 @@ pub fn put_record<const WORDS: usize>(table: &mut [u32], n: usize, words: [usize
         table.new ≡ take (WORDS * n) old ++ words.entry ++ drop (WORDS * n + WORDS) old }
 {
     let start = WORDS * n;
+    // An index, no `zip` with `iter_mut`: that was tried, and a proof then knows nothing of the cells written.
     for (k, word) in words.iter().enumerate() {
         table[start + k] = *word as u32;
     }
