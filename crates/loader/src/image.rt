@@ -15,6 +15,7 @@ ghost use Rattle.loader.specs.answers.Image.{row_bytes, image_answer, image_rows
 use demands::BoardRows;
 use laws::Refusal;
 use layout::ROW_WORDS;
+use tables::wide;
 use wire::WORD_BYTES;
 
 // The words of 1,024 node records.
@@ -59,7 +60,7 @@ pub fn read_image(width: u32, blob: &[u8], rows: &mut [u8]) -> Result<BoardRows,
     let mut nodes = [0u32; NODE_ROOM];
     let mut table = [0u32; PROPERTY_ROOM];
     let found = blob::read_blob(blob, &mut nodes, &mut table)?;
-    let node_words = 3 * found.nodes as usize;
-    let words = 5 * found.props as usize;
+    let node_words = 3 * wide(found.nodes);
+    let words = 5 * wide(found.props);
     read_board(width, &nodes[..node_words], &mut table, words, blob, rows)
 }

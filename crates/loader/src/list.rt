@@ -15,7 +15,7 @@ use laws::{Broken, Rule};
 use wire::{NUMBER_BYTES, number_at};
 
 // Reads the MPIDRs of a list, as far as the first one with a bit that is no affinity bit. That test keeps the loop from being a mere copy, which
-// the compiler would turn into a call of memcpy.
+// the compiler would turn into a call of memcpy. No search for the first fault alone: the loop fills the list on its way.
 fn read_mpidrs(list: &[u8], mpidrs: &mut [u64]) -> Result<(), Broken>
     requires { length list.now / number_size ≤ length mpidrs.old }
     ensures fault { broken_in result ≡ first_outside (numbers_in list.now) }
@@ -40,6 +40,7 @@ pub fn byte_slot(mpidr: u64, list: &[u8]) -> Result<u32, Broken>
     if list.len() % NUMBER_BYTES != 0 || MAX_CPUS < count {
         return Err(Rule::ListLength.broken_at(0));
     }
+    // Fixed memory, and a count beside it: there is no heap.
     let mut mpidrs = [0u64; MAX_CPUS];
     read_mpidrs(list, &mut mpidrs)?;
     affinity::list_slot(mpidr, &mpidrs[..count])

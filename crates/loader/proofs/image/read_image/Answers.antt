@@ -29,6 +29,8 @@ returns c =
     let a = c.args in
     let read = c.in_ok-found.ensures in
     let done = c.read_board.ensures in
+    let nodes = c.wide-node_words.ensures in
+    let props = c.wide-words.ensures in
     let t =
     reads a.width a.blob.now a.rows.now (length-replicate {A = ℕ} node_room 0) (length-replicate {A = ℕ} prop_room 0) read.answer
     read.reading
@@ -36,5 +38,5 @@ returns c =
     read.nodes
     read.props
     (λ i. omega (arith, (goal.at.returns c).In_ok-found.type_inv.rows i))
-    (done.answer, (done.rows, done.demands)) in
+    (rw (nodes, props) at done.answer, (rw (nodes, props) at done.rows, rw (nodes, props) at done.demands)) in
     record { answer = t.0; rows = t.1.0; words = t.1.1.0; demands = t.1.1.1 }
