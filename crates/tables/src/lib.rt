@@ -1,5 +1,6 @@
 // SPDX-License-Identifier: BSD-2-Clause OR GPL-2.0-or-later
-// A board's three tables, read without trusting them: records, ancestors, ranges of the pool, properties; and the names of the bindings.
+// A board's three tables, read without trusting them: records, ancestors, ranges of the pool, properties; and the value of `device_type`
+// that a cpu has.
 #![tactic(auto)]
 
 pub mod binding;

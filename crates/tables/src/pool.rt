@@ -23,8 +23,11 @@ pub fn range_is(pool: &[u8], offset: usize, len: usize, bytes: &[u8]) -> bool
 pub fn cell_at(pool: &[u8], at: usize) -> u32
     ensures { result ≡ cell_at pool.now at }
 {
-    if !is_inside(pool.len(), at, 4) {
+    let Some(rest) = pool.get(at..) else {
         return 0;
-    }
-    u32::from_be_bytes([pool[at], pool[at + 1], pool[at + 2], pool[at + 3]])
+    };
+    let Some(cell) = rest.first_chunk::<4>() else {
+        return 0;
+    };
+    u32::from_be_bytes(*cell)
 }
