@@ -2,7 +2,7 @@
 -- The next zero byte, and the last one. Assumes nothing.
 use mathlib.Core.Path.{◌≡◌, refl, sym, subst}
 use mathlib.Core.Bool.{Bool, true, false, cond}
-use mathlib.Core.Logic.{⊎_elim}
+use mathlib.Core.Logic.{⊎_elim, ◌≢◌}
 use mathlib.Core.List.{List}
 use Prim.Native.Nat.{ℕ, zero, suc, ◌+◌, ◌-◌, ◌≤◌, ◌<◌}
 use native.Mathlib.Omega.{arith}
@@ -89,26 +89,6 @@ zero_is bytes i lt =
     let low = (zero_in_bounds bytes (length bytes - i) i).0 in
     zero_in_is bytes (length bytes - i) i (omega arith)
 
--- the last zero byte
-pub behind_here : (bytes : List ℕ) (n : ℕ) → 0 < n → get_or bytes (n - 1) 0 ≡ 0 → behind_zero_in bytes n ≡ n
-unfolding behind_zero_in
-behind_here bytes zero lt e = absurd (omega arith)
-behind_here bytes (suc n) lt e =
-    let back : suc n - 1 ≡ n = omega arith in
-    rw (eq-eqb (get_or bytes n 0) 0 (subst (λ (k : ℕ). get_or bytes k 0 ≡ 0) back e))
-
-pub behind_next : (bytes : List ℕ) (n : ℕ) → 0 < n → (get_or bytes (n - 1) 0 ≡ 0 → ⊥) → behind_zero_in bytes n ≡ behind_zero_in bytes (n - 1)
-unfolding behind_zero_in
-behind_next bytes zero lt e = absurd (omega arith)
-behind_next bytes (suc n) lt e =
-    let back : suc n - 1 ≡ n = omega arith in
-    rw (ne_eqb (get_or bytes n 0) 0 (λ q. e (subst (λ (k : ℕ). get_or bytes k 0 ≡ 0) (sym back) q)), back)
-
-pub behind_none : (bytes : List ℕ) (n : ℕ) → n ≤ 0 → behind_zero_in bytes n ≡ n
-unfolding behind_zero_in
-behind_none bytes zero le = refl
-behind_none bytes (suc n) le = absurd (omega arith)
-
 -- a zero byte stands before the place behind the last one
 zero_behind : (bytes : List ℕ) (n m : ℕ) → m < n → get_or bytes m 0 ≡ 0 → m < behind_zero_in bytes n
 unfolding behind_zero_in
@@ -143,6 +123,26 @@ behind_zero_in_lem bytes (suc n) x lt = go (eqb (get_or bytes n 0) 0) refl (behi
 pub behind_before : (bytes : List ℕ) (x : ℕ) → x < behind_zero bytes → (m : ℕ) × (m < length bytes) × (x ≤ m) × (get_or bytes m 0 ≡ 0)
 unfolding behind_zero
 behind_before bytes x lt = behind_zero_in_lem bytes (length bytes) x lt
+
+-- the last zero byte, by where it stands, and where there is none
+pub behind_last :
+    (bytes : List ℕ) (i : ℕ) →
+    i < length bytes →
+    get_or bytes i 0 ≡ 0 →
+    ((k : ℕ) → i + 1 ≤ k → k < length bytes → get_or bytes k 0 ≢ 0) →
+    i + 1 ≡ behind_zero bytes
+behind_last bytes i lt e after =
+    ⊎_elim
+    (λ more. let z = behind_before bytes (i + 1) more in absurd (after z.0 z.2 z.1 z.3))
+    (λ less. let low = before_behind bytes i lt e in omega arith)
+    (lt_or_le (i + 1) (behind_zero bytes))
+
+pub behind_nowhere : (bytes : List ℕ) → ((k : ℕ) → k < length bytes → get_or bytes k 0 ≢ 0) → 0 ≡ behind_zero bytes
+behind_nowhere bytes none =
+    ⊎_elim
+    (λ more. let z = behind_before bytes 0 more in absurd (none z.0 z.1 z.3))
+    (λ less. omega arith)
+    (lt_or_le 0 (behind_zero bytes))
 
 -- the next zero byte stands in the bytes, if any follows
 pub zero_follows : (bytes : List ℕ) (i m : ℕ) → i ≤ m → m < length bytes → get_or bytes m 0 ≡ 0 → zero_from bytes i < length bytes

@@ -1,6 +1,6 @@
 // SPDX-License-Identifier: BSD-2-Clause OR GPL-2.0-or-later
 // The cells that tokens begin with.
-// No enum: a match on them makes a jump table, a quarter slower (docs/SPEED.md, "A blob").
+// No enum: a match on them makes a jump table. Tests without one took 1.3 of `fast` in place of 1.5, on an older kit (docs/SPEED.md, "A blob").
 
 pub const BEGIN_NODE: u32 = 1;
 

@@ -8,8 +8,9 @@ use crate::cell::{BEGIN_NODE, END_NODE, NOP, PROP};
 use crate::token::{begin_at, property_at};
 use tables::cell_at;
 
-// The token at a place; names of properties begin in a strings block of so many bytes. Unlike `token_at` it does not tell the end token
-// and tests no place, so the two are no instances of one. Tests in this order, as in `token_at`.
+// The token at a place; names of properties begin in a strings block of so many bytes. Tests in this order, as in `token_at`.
+// Unlike `token_at` it does not tell the end token and tests no place. One function for both was tried: it was called, not put in its place,
+// and handed its enum through memory, 2.5 times the time on an older kit (docs/SPEED.md, "A blob").
 pub fn known_at(block: &[u8], names: usize, at: usize) -> TokenRead
     ensures { result ≡ known_read block.now names at }
 {

@@ -9,12 +9,12 @@ use crate::cell::{BEGIN_NODE, END, END_NODE, NOP, PROP};
 use crate::zero::zero_from;
 use tables::{cell_at, is_inside, wide};
 
-// Where the next token stands, behind data that end at a place. std has no `next_multiple_of`.
+// Where the next token stands, behind data that end at a place. A function for its clause, which has the sum of the definitions.
 fn aligned(end: usize) -> usize
     requires { end + 3 < 18446744073709551616 }
     ensures { result ≡ aligned end }
 {
-    (end + 3) / 4 * 4
+    end.next_multiple_of(4)
 }
 
 // A begin token. Where that is tested, its name ends before the block does.
@@ -24,6 +24,7 @@ pub fn begin_at<const TESTED: bool>(block: &[u8], at: usize) -> TokenRead
 {
     let from = at + 4;
     let stop = zero_from(block, from);
+    // The length stands for no zero byte: the definition of `zero_from` answers it.
     if TESTED && stop == block.len() {
         return TokenRead::Unsound;
     }
@@ -53,6 +54,7 @@ pub fn property_at<const TESTED: bool>(block: &[u8], named: usize, at: usize) ->
 
 // The token at a place.
 // Most tokens are properties, so their cell is tested first. Tests in this order, and no match, since that makes a jump table (cell.rt).
+// `known_at` is a function of its own: its comment has the reason.
 pub fn token_at(block: &[u8], named: usize, at: usize) -> TokenRead
     ensures { result ≡ token_read block.now named at }
 {

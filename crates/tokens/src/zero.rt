@@ -19,10 +19,8 @@ pub fn zero_from(bytes: &[u8], from: usize) -> usize
 pub fn behind_zero(bytes: &[u8]) -> usize
     ensures { result ≡ behind_zero bytes.now }
 {
-    for i in (0..bytes.len()).rev() {
-        if bytes[i] == 0 {
-            return i + 1;
-        }
+    match bytes.iter().rposition(|b| *b == 0) {
+        Some(i) => i + 1,
+        None => 0,
     }
-    0
 }
