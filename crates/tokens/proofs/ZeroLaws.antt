@@ -1,13 +1,16 @@
 -- SPDX-License-Identifier: BSD-2-Clause OR GPL-2.0-or-later
 -- The next zero byte, and the last one. Assumes nothing.
-use mathlib.Core.Path.{◌≡◌, refl, sym, subst}
+use mathlib.Core.Path.{◌≡◌, refl, sym, subst, ap, ◌∙◌}
 use mathlib.Core.Bool.{Bool, true, false, cond}
 use mathlib.Core.Logic.{⊎_elim, ◌≢◌}
 use mathlib.Core.List.{List}
 use Prim.Native.Nat.{ℕ, zero, suc, ◌+◌, ◌-◌, ◌≤◌, ◌<◌}
 use native.Mathlib.Omega.{arith}
 use lib.Dec.{eqb}
-use lib.ListN.{length, get_or}
+use lib.ListN.{length, get_or, drop, length-drop}
+use lib.Seq.{get_or-drop}
+use Rattle.std.specs.List.{slice_range}
+use Rattle.std.proofs.lemmas.Slice.{between_to_end}
 use borrow.Author.Tests.{eq-eqb, ne_eqb, eqb-true, eqb-false}
 use Rattle.laws.proofs.SearchLaws.{lt_or_le}
 use Rattle.tokens.specs.answers.Read.{zero_in, zero_from, behind_zero_in, behind_zero}
@@ -148,3 +151,47 @@ behind_nowhere bytes none =
 pub zero_follows : (bytes : List ℕ) (i m : ℕ) → i ≤ m → m < length bytes → get_or bytes m 0 ≡ 0 → zero_from bytes i < length bytes
 zero_follows bytes i m le lt e =
     ⊎_elim (λ less. less) (λ more. absurd (zero_before bytes i m le (omega arith) e)) (lt_or_le (zero_from bytes i) (length bytes))
+
+-- .. and where it stands
+zero_first :
+    (bytes : List ℕ) (i m : ℕ) →
+    i ≤ m →
+    m < length bytes →
+    get_or bytes m 0 ≡ 0 →
+    ((k : ℕ) → i ≤ k → k < m → get_or bytes k 0 ≢ 0) →
+    m ≡ zero_from bytes i
+zero_first bytes i m le lt e before =
+    let low = zero_not_before bytes i in
+    let late : zero_from bytes i ≤ m = ⊎_elim (λ less. absurd (zero_before bytes i m le less e)) (λ more. more) (lt_or_le m (zero_from bytes i)) in
+    ⊎_elim
+    (λ less. absurd (before (zero_from bytes i) low less (zero_is bytes i (omega arith))))
+    (λ more. omega arith)
+    (lt_or_le (zero_from bytes i) m)
+
+-- the same of the part from a place on
+module _ (bytes rest : List ℕ) (from : ℕ) (inside : from ≤ length bytes) (part : rest ≡ slice_range bytes from (length bytes)) where
+  whole : rest ≡ drop from bytes
+  whole = part ∙ between_to_end bytes from (length bytes) (omega arith)
+
+  long : from + length rest ≡ length bytes
+  long = omega (arith, ap length whole, length-drop from bytes)
+
+  byte_of : (k : ℕ) → get_or rest k 0 ≡ get_or bytes (from + k) 0
+  byte_of k = ap (λ (l : List ℕ). get_or l k 0) whole ∙ get_or-drop from bytes k 0
+
+  byte_behind : (k : ℕ) → from ≤ k → get_or rest (k - from) 0 ≡ get_or bytes k 0
+  byte_behind k le = let back : from + (k - from) ≡ k = omega arith in byte_of (k - from) ∙ ap (λ (j : ℕ). get_or bytes j 0) back
+
+  pub zero_found :
+      (i : ℕ) → i < length rest → get_or rest i 0 ≡ 0 → ((k : ℕ) → k < i → get_or rest k 0 ≢ 0) → from + i ≡ zero_from bytes from
+  zero_found i lt e before =
+      zero_first bytes from (from + i) (omega arith) (omega (arith, long)) (sym (byte_of i) ∙ e)
+      (λ k le less q. before (k - from) (omega arith) (byte_behind k le ∙ q))
+
+  pub zero_nowhere : ((k : ℕ) → k < length rest → get_or rest k 0 ≢ 0) → length bytes ≡ zero_from bytes from
+  zero_nowhere none =
+      let z = zero_from bytes from in
+      let low = zero_not_before bytes from in
+      let high = zero_inside bytes from inside in
+      ⊎_elim (λ less. absurd (none (z - from) (omega (arith, long)) (byte_behind z low ∙ zero_is bytes from less))) (λ more. omega arith)
+      (lt_or_le z (length bytes))

@@ -3,16 +3,17 @@
 ghost use Rattle.std.specs.Prelude.{◌≡◌};
 ghost use Rattle.tokens.specs.answers.Read.{zero_from, behind_zero};
 
-// The first zero byte from a place on, or the end of the bytes.
+// The first zero byte from a place on, or the end of the bytes; a place behind the end is handed back.
 pub fn zero_from(bytes: &[u8], from: usize) -> usize
     ensures { result ≡ zero_from bytes.now from }
 {
-    for i in from..bytes.len() {
-        if bytes[i] == 0 {
-            return i;
-        }
+    let Some(rest) = bytes.get(from..) else {
+        return from;
+    };
+    match rest.iter().position(|b| *b == 0) {
+        Some(i) => from + i,
+        None => bytes.len(),
     }
-    from.max(bytes.len())
 }
 
 // The place behind the last zero byte, 0 where there is none.

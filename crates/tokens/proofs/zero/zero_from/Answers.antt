@@ -1,21 +1,23 @@
 -- SPDX-License-Identifier: BSD-2-Clause OR GPL-2.0-or-later
-use mathlib.Core.Path.{◌≡◌, refl, sym, ◌∙◌}
-use Prim.Native.Nat.{max}
+-- `zero_from` finds the next zero byte. Assumes nothing.
+use mathlib.Core.Path.{sym}
+use mathlib.Core.Logic.{⊎_elim}
 use native.Mathlib.Omega.{arith}
-use lib.ListN.{length}
-use Rattle.tokens.proofs.ZeroLaws.{zero_here, zero_next, zero_end}
+use Rattle.std.proofs.Common.{rules}
+use Rattle.tokens.proofs.ZeroLaws.{zero_end, zero_found, zero_nowhere}
 use Rattle.tokens.proofs.zero.zero_from.Goals as goal
 
-pub loop-i-init : goal.loop-i-init
-loop-i-init c = (refl, omega arith)
+pub returns-in_default : goal.returns-in_default
+returns-in_default c =
+    let a = c.args in
+    sym (zero_end a.bytes.now a.from (⊎_elim (λ past. omega arith) (λ no. omega arith) c.in_default.ensures.lookup.0))
 
-pub returns-then-bytes-i-eq0 : goal.returns-then-bytes-i-eq0
-returns-then-bytes-i-eq0 c = sym (c.loop-i.invariant.0 ∙ zero_here _ _ (omega arith) c.if-bytes-i-eq0.true)
+pub returns-in-Some-position : goal.returns-in-Some-position
+returns-in-Some-position c =
+    let part = c.in-Some.ensures.lookup.0 in
+    zero_found c.args.bytes.now c.in-Some.rest.now c.args.from part.0 part.2 c.in-Some-position.i (search rules) (search rules) (search rules)
 
-pub loop-i-preserved : goal.loop-i-preserved
-loop-i-preserved c = (c.loop-i.invariant.0 ∙ zero_next _ _ (omega arith) c.if-bytes-i-eq0.false, omega arith)
-
-pub returns : goal.returns
-returns c =
-    let ends : max c.args.from (length c.args.bytes.now) ≡ c.loop-i.i = omega arith in
-    c.max.ensures ∙ ends ∙ sym (c.loop-i.invariant.0 ∙ zero_end _ _ (omega arith))
+pub returns-in-None : goal.returns-in-None
+returns-in-None c =
+    let part = c.in-Some.ensures.lookup.0 in
+    zero_nowhere c.args.bytes.now c.in-Some.rest.now c.args.from part.0 part.2 (search rules)
