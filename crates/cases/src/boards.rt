@@ -2,6 +2,7 @@
 // Boards, with a table of slots or without.
 use crate::say::Told;
 use crate::{input, say};
+use affinity::Hash;
 use demands::BoardRows;
 use std::io;
 use tables::Tables;
@@ -58,7 +59,7 @@ fn read(
     let told = Told::from(answer);
     let found = answer.unwrap_or(BoardRows {
         count: 0,
-        hash: say::NO_HASH,
+        hash: Hash::default(),
     });
     say::answer(rt, told, found.count, found.hash)?;
     say::number(rt, told.second as u64)?;

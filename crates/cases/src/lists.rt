@@ -26,6 +26,6 @@ fn ask(rt: &(impl Input + Print), mpidr: u64, list: &[u64]) -> io::Result<()> {
         rt,
         slot.into(),
         slot.unwrap_or(0) as usize,
-        hash.unwrap_or(say::NO_HASH),
+        hash.unwrap_or_default(),
     )
 }

@@ -9,13 +9,6 @@ use laws::Refusal;
 use laws::limits::NO_PROPERTY;
 use std::io;
 
-// The hash that is told where there is none.
-pub const NO_HASH: Hash = Hash {
-    mask: 0,
-    shifts: [0; 4],
-    bits: 0,
-};
-
 // What is told of an answer, in the library's own numbers (the calls for C tell words), whatever it holds where no rule is broken: the
 // rule's number and place, and the property's number.
 #[derive(Clone, Copy)]
