@@ -10,6 +10,7 @@ use laws::limits::{MAX_NODES, MAX_PROPERTIES};
 use tables::{Found, found_at, wide};
 
 // Notes property k at a place where none is noted.
+// A word is k + 1, or 0 for none, as the definition `noted` has it: an `Option<u16>` would take four bytes a word in place of two.
 fn note(table: &mut [u16; INDEX_WORDS], at: usize, k: usize)
     requires { (at < 4096) × (k < 65535) }
     ensures { table.new ≡ noted table.old at k }
@@ -44,13 +45,15 @@ pub fn index_properties(props: &[u32], pool: &[u8], table: &mut [u16; INDEX_WORD
     ensures table { table.new ≡ indexed table.old props.now pool.now }
     ensures index { Indexes table.old props.now pool.now table.new }
 {
-    let n = (props.len() / 5).min(MAX_PROPERTIES);
-    for k in 0..n {
-        let at = 5 * k;
-        let node = wide(props[at]);
-        let offset = wide(props[at + 1]);
-        let len = wide(props[at + 2]);
-        note_key(table, pool, node, offset, len, k);
+    for (k, words) in props.chunks_exact(5).take(MAX_PROPERTIES).enumerate() {
+        note_key(
+            table,
+            pool,
+            wide(words[0]),
+            wide(words[1]),
+            wide(words[2]),
+            k,
+        );
     }
 }
 
@@ -63,9 +66,6 @@ pub fn find_indexed(props: &[u32], table: &[u16; INDEX_WORDS], i: usize, key: Ke
     if MAX_NODES <= i {
         return None;
     }
-    let noted = usize::from(table[KEYS * i + key.number()]);
-    if noted == 0 {
-        return None;
-    }
-    Some(found_at(props, noted - 1))
+    let k = usize::from(table[KEYS * i + key.number()]).checked_sub(1)?;
+    Some(found_at(props, k))
 }

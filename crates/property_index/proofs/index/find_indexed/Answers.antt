@@ -1,7 +1,7 @@
 -- SPDX-License-Identifier: BSD-2-Clause OR GPL-2.0-or-later
 -- `find_indexed` meets its contract: a word of the table tells. Assumes nothing.
 use Rattle.std.specs.Prelude.{Some}
-use mathlib.Core.Path.{sym, ap, ◌∙◌}
+use mathlib.Core.Path.{ap, ◌∙◌}
 use Prim.Native.Nat.{◌<◌}
 use native.Mathlib.Omega.{arith}
 use Rattle.property_index.proofs.IndexLaws.{index_meets}
@@ -31,16 +31,16 @@ offset_bounds-table-i c = omega (arith, number (goal.at.offset_bounds-table-i c)
 pub bounds-table-i : goal.bounds-table-i
 bounds-table-i c = omega (arith, number (goal.at.bounds-table-i c).After-number)
 
-pub returns-then-noted-eq0 : goal.returns-then-noted-eq0
-returns-then-noted-eq0 c =
+pub returns-in_err-k : goal.returns-in_err-k
+returns-in_err-k c =
     let a = c.args in
-    let none = key_none a.props.now a.table.now a.i a.key c.number.ensures (sym c.from-noted.ensures ∙ c.if-noted-eq0.true) in
+    let none = key_none a.props.now a.table.now a.i a.key c.number.ensures c.from.ensures (omega (arith, c.in_err-k.ensures)) in
     let meets = index_meets a.props.now a.table.now a.i a.key none in
-    record { answer = meets.0; as_lookup = meets.1.0; finds = meets.1.1 }
+    rw c.from_residual.ensures (record { answer = meets.0; as_lookup = meets.1.0; finds = meets.1.1 })
 
 pub returns : goal.returns
 returns c =
     let a = c.args in
-    let some = ap Some c.found_at.ensures ∙ key_some a.props.now a.table.now a.i a.key c.number.ensures c.from-noted.ensures c.if-noted-eq0.false in
+    let some = ap Some c.found_at.ensures ∙ key_some a.props.now a.table.now a.i a.key c.number.ensures c.from.ensures (omega (arith, c.in_ok-k.ensures.0, c.in_ok-k.ensures.1)) in
     let meets = index_meets a.props.now a.table.now a.i a.key some in
     record { answer = meets.0; as_lookup = meets.1.0; finds = meets.1.1 }
