@@ -13,6 +13,7 @@ use laws::{Broken, Rule};
 use tables::{is_inside, is_property, wide};
 
 // Whether a property's words keep rule 7 on a board of `count` node records and a pool of so many bytes.
+// Seven parameters, since the definition `sound_words` takes the words one by one; it has one caller.
 fn sound_property(
     count: usize,
     bytes: usize,
@@ -35,6 +36,7 @@ pub fn first_property_fault(count: usize, props: &[u32], pool: &[u8]) -> Result<
     // No `first_broken`: a table is carried from turn to turn.
     let mut starts = [NO_START; PLACES];
     for k in 0..props.len() / 5 {
+        // By index: the definition `property_fault` goes by k, and so does the search for an earlier one.
         let own = 5 * k;
         let node = wide(props[own]);
         let start = wide(props[own + 1]);
