@@ -13,7 +13,7 @@ pub use mask::mask_of;
 pub use slot::{hash_of_mask, slot_of};
 
 // The mask, each level's shift, and the number of bits of a slot.
-#[derive(Clone, Copy)]
+#[derive(Clone, Copy, Default)]
 pub struct Hash {
     pub mask: u64,
     pub shifts: [u32; 4],

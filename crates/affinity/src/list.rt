@@ -23,6 +23,7 @@ pub fn list_hash(list: &[u64]) -> Result<Hash, Broken>
 }
 
 // The slot of one MPIDR in a list, for one that is listed.
+// `plan_slot` of plan differs in check and slot: what both have is one `if`, too little for a function.
 pub fn list_slot(mpidr: u64, list: &[u64]) -> Result<u32, Broken>
     ensures answer { slot_told result ≡ slot_answer mpidr list.now }
     ensures demands { SlotDemands list.now mpidr (slot_told result) }
