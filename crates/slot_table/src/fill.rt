@@ -15,6 +15,7 @@ fn enter_rows(table: &mut [u32], rows: &[u32], size: usize)
         ≡ entered_below (slot_at rows.now) size (length rows.now / row_size) table.old }
 {
     for (k, row) in rows.chunks_exact(ROW_WORDS).enumerate() {
+        // A cast: Rust has no From<u32> for usize, and tables with its `wide` is not below this crate.
         let slot = row[SLOT_WORD] as usize;
         if slot < size {
             // An `as` takes no number that does not fit; the definition `entered_below` has the remainder.
