@@ -10,6 +10,7 @@ use super::check::check_plan;
 use laws::{Broken, Rule, is_among};
 
 // The slot of one MPIDR under a plan, for one that is listed.
+// `list_slot` of affinity differs in check and slot: what both have is one `if`, too little for a function.
 pub fn plan_slot(mpidr: u64, list: &[u64], positions: &[u32]) -> Result<u32, Broken>
     ensures answer { slot_told result ≡ plan_slot mpidr list.now positions.now }
     ensures demands { PlanSlotDemands list.now positions.now mpidr (slot_told result) }
