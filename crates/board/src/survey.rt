@@ -31,6 +31,7 @@ pub fn survey(width: u32, tables: &Tables, arrays: &mut Arrays) -> Result<Counts
     let wanted = CpuNumbers::Regs { cells, width };
     cpus::read_numbers(wanted, tables, &index, listed, &mut arrays.regs)?;
     let map = cpumap::find_map(tables)?;
+    // Fixed memory, since there is no heap: the first `count` are those of the cpus found.
     let mut phandles = [0u64; MAX_CPUS];
     let wanted = CpuNumbers::Phandles;
     cpus::read_numbers(wanted, tables, &index, listed, &mut phandles)?;
