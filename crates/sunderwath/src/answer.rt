@@ -25,14 +25,7 @@ pub const ANSWER_SHORT: u32 = Rule::AnswerSpace as u32;
 // The second place of an answer that tells of no property.
 pub const NO_SECOND: u32 = NO_PROPERTY as u32;
 
-// A hash of zeros, for answers that have none.
-pub const NO_HASH: Hash = Hash {
-    mask: 0,
-    shifts: [0; 4],
-    bits: 0,
-};
-
-// What is told in words: number, place and second place.
+// What is told, in words of the C interface: number, place and second place. `Told` of cases has the library's own numbers.
 #[derive(Clone, Copy)]
 pub struct Told {
     pub number: u32,
@@ -78,7 +71,8 @@ pub fn tell_check(checked: Result<(), Broken>) -> Told
     }
 }
 
-// Writes the eleven words at the start of an answer that has room for them, and gives its number: what each call owes.
+// Writes the eleven words at the start of an answer that has room for them, and gives its number. No struct of the three: each caller has
+// them apart, and would put one together for this call alone.
 pub fn put_answer(answer: &mut [u32], told: Told, third: u32, hash: Hash) -> u32
     requires { answer_size ≤ length answer.old }
     ensures number { result ≡ or_short answer.old told.number }
@@ -113,7 +107,7 @@ pub fn put_refusal(answer: &mut [u32], told: Told) -> u32
     ensures number { result ≡ or_short answer.old told.number }
     ensures answer { answer.new ≡ answer_after answer.old (answer_words told.number told.place told.second 0 no_hash) }
 {
-    put_answer(answer, told, 0, NO_HASH)
+    put_answer(answer, told, 0, Hash::default())
 }
 
 // The same for the answer of a board, whose numbers are words.

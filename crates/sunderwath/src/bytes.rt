@@ -23,7 +23,7 @@ fn put_reply(answer: &mut [u8], told: Told, last: u32) -> u32
     told.number
 }
 
-// The same for a refusal: no last word.
+// The same for a refusal: no last word. `put_refused` of the plans writes words, not bytes, and no second place.
 fn put_refused(answer: &mut [u8], told: Told) -> u32
     requires { reply_size ≤ length answer.old }
     ensures number { result ≡ or_short_of reply_size answer.old told.number }

@@ -43,6 +43,7 @@ pub extern "C" fn sunderwath_find_property(
     ensures answer { result ≡ found_word (lookup props.now pool.now node name.now) }
     ensures finds { FindsWord props.now pool.now node name.now result }
 {
+    // A cast: tried with `wide` of tables, and the search for a proof of the clause `finds` does not close.
     let found = lookup::find_property(props, pool, node as usize, name);
     record_of(found).unwrap_or(NO_PROPERTY).min(NO_PROPERTY) as u32
 }

@@ -5,9 +5,8 @@ ghost use Rattle.affinity.specs.answers.List.{hash_answer, slot_answer};
 ghost use Rattle.sunderwath.specs.answers.Answer.{or_short, answer_after};
 ghost use Rattle.sunderwath.specs.answers.List.{hash_words, slot_words};
 
-use crate::answer::{
-    ANSWER_SHORT, ANSWER_WORDS, CLEAR, NO_HASH, put_answer, put_refusal, tell_broken,
-};
+use crate::answer::{ANSWER_SHORT, ANSWER_WORDS, CLEAR, put_answer, put_refusal, tell_broken};
+use affinity::Hash;
 
 // The hash of a list of MPIDRs.
 #[unsafe(no_mangle)]
@@ -34,7 +33,7 @@ pub extern "C" fn sunderwath_list_slot(mpidr: u64, list: &[u64], answer: &mut [u
         return ANSWER_SHORT;
     }
     match affinity::list_slot(mpidr, list) {
-        Ok(slot) => put_answer(answer, CLEAR, slot, NO_HASH),
+        Ok(slot) => put_answer(answer, CLEAR, slot, Hash::default()),
         Err(broken) => put_refusal(answer, tell_broken(broken)),
     }
 }

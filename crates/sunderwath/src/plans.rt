@@ -39,6 +39,7 @@ pub extern "C" fn sunderwath_plan_check(list: &[u64], positions: &[u32], answer:
 }
 
 // Writes number and place of a refusal and a 0 at the start of an answer that has room for them, and gives the number.
+// `put_refused` of the byte calls writes bytes, and the second place too.
 fn put_refused(answer: &mut [u32], told: Told) -> u32
     requires { 3 ≤ length answer.old }
     ensures number { result ≡ told.number }
