@@ -1,5 +1,6 @@
 // SPDX-License-Identifier: BSD-2-Clause OR GPL-2.0-or-later
-// A property's value as a number of one cell or of two, and what is told of a property.
+// A property's value as a number of one cell or of two, and what is told of a property. The pool stands beside what was found in it: a
+// `Found` holds no slice, so that it may be kept.
 ghost use Rattle.std.specs.Prelude.{◌≡◌, ◌+◌, ◌≤◌, length};
 ghost use Rattle.laws.specs.facts.Told.{number_of};
 ghost use Rattle.laws.specs.answers.Told.{told_of};

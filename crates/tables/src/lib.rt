@@ -1,6 +1,8 @@
 // SPDX-License-Identifier: BSD-2-Clause OR GPL-2.0-or-later
 // A board's three tables, read without trusting them: records, ancestors, ranges of the pool, properties; and the value of `device_type`
 // that a cpu has.
+// A record, a property or a name stands beside the tables, or beside the one table that is read, as definitions have them. A struct of both
+// would be made anew on each turn of a loop.
 #![tactic(auto)]
 
 pub mod binding;
