@@ -15,6 +15,7 @@ fn is_free(tables: &Tables, p: usize, i: usize, n: u32) -> bool
     requires { Child tables.now.nodes.now p i }
     ensures { result ≡ is_free tables.now.nodes.now tables.now.pool.now p i n }
 {
+    // Counted by hand: filter and enumerate were tried, and the proof did not close.
     let mut count: usize = 0;
     for j in p + 1..tables.nodes.len() / 3 {
         if is_child(tables.nodes, p, j) {
