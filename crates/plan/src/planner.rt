@@ -55,6 +55,7 @@ fn ones_of(keep: u64) -> Plan
     ensures { plan_told (Ok result) ≡ plan_with (ones_of keep) }
 {
     let mut positions = [0; 32];
+    // Counted by hand: the plan needs the count behind the loop, where that of enumerate is gone.
     let mut count = 0;
     for k in 0..BITS {
         if (keep >> k) % 2 == 1 {
