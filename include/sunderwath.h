@@ -255,14 +255,14 @@ extern "C" {
  * Boards of 16 and of 256 cpus (of a blob as many as 1,024 properties allow)
  * and 1,024 records nested in each other need the same:
  *                                                 x86-64  aarch64  riscv64
- *   read_tables                                   16,840   16,848   16,760
- *   read_tables_slots                             16,824   16,864   16,776
- *   read_blob                                     49,608   49,584   49,512
+ *   read_tables                                   16,840   16,832   16,760
+ *   read_tables_slots                             16,824   16,848   16,776
+ *   read_blob                                     49,608   49,568   49,512
  */
 #if defined(__aarch64__)
-#define SUNDERWATH_STACK_BYTES 16864
-#define SUNDERWATH_FLAT_STACK_BYTES 728
-#define SUNDERWATH_BLOB_STACK_BYTES 49584
+#define SUNDERWATH_STACK_BYTES 16848
+#define SUNDERWATH_FLAT_STACK_BYTES 744
+#define SUNDERWATH_BLOB_STACK_BYTES 49568
 #define SUNDERWATH_SLOT_STACK_BYTES 2160
 #define SUNDERWATH_PLAN_STACK_BYTES 296
 #elif defined(__riscv) && __riscv_xlen == 64
@@ -273,7 +273,7 @@ extern "C" {
 #define SUNDERWATH_PLAN_STACK_BYTES 344
 #elif defined(__x86_64__)
 #define SUNDERWATH_STACK_BYTES 16840
-#define SUNDERWATH_FLAT_STACK_BYTES 776
+#define SUNDERWATH_FLAT_STACK_BYTES 792
 #define SUNDERWATH_BLOB_STACK_BYTES 49608
 #define SUNDERWATH_SLOT_STACK_BYTES 2160
 #define SUNDERWATH_PLAN_STACK_BYTES 272

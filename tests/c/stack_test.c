@@ -29,7 +29,7 @@
 
 /* The most that boards without long chains of records have needed. */
 #if defined(__aarch64__)
-#define ORDINARY_BYTES 16864
+#define ORDINARY_BYTES 16848
 #elif defined(__riscv)
 #define ORDINARY_BYTES 16776
 #else
