@@ -257,26 +257,26 @@ extern "C" {
  *                                                 x86-64  aarch64  riscv64
  *   read_tables                                   16,840   16,832   16,760
  *   read_tables_slots                             16,824   16,848   16,776
- *   read_blob                                     49,608   49,568   49,512
+ *   read_blob                                     49,608   49,584   49,520
  */
 #if defined(__aarch64__)
 #define SUNDERWATH_STACK_BYTES 16848
-#define SUNDERWATH_FLAT_STACK_BYTES 744
-#define SUNDERWATH_BLOB_STACK_BYTES 49568
-#define SUNDERWATH_SLOT_STACK_BYTES 2160
-#define SUNDERWATH_PLAN_STACK_BYTES 296
+#define SUNDERWATH_FLAT_STACK_BYTES 760
+#define SUNDERWATH_BLOB_STACK_BYTES 49584
+#define SUNDERWATH_SLOT_STACK_BYTES 2176
+#define SUNDERWATH_PLAN_STACK_BYTES 312
 #elif defined(__riscv) && __riscv_xlen == 64
 #define SUNDERWATH_STACK_BYTES 16776
-#define SUNDERWATH_FLAT_STACK_BYTES 872
-#define SUNDERWATH_BLOB_STACK_BYTES 49512
-#define SUNDERWATH_SLOT_STACK_BYTES 2144
-#define SUNDERWATH_PLAN_STACK_BYTES 344
+#define SUNDERWATH_FLAT_STACK_BYTES 880
+#define SUNDERWATH_BLOB_STACK_BYTES 49520
+#define SUNDERWATH_SLOT_STACK_BYTES 2152
+#define SUNDERWATH_PLAN_STACK_BYTES 352
 #elif defined(__x86_64__)
 #define SUNDERWATH_STACK_BYTES 16840
 #define SUNDERWATH_FLAT_STACK_BYTES 792
 #define SUNDERWATH_BLOB_STACK_BYTES 49608
-#define SUNDERWATH_SLOT_STACK_BYTES 2160
-#define SUNDERWATH_PLAN_STACK_BYTES 272
+#define SUNDERWATH_SLOT_STACK_BYTES 2176
+#define SUNDERWATH_PLAN_STACK_BYTES 288
 #endif
 
 /*
