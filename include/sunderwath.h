@@ -255,9 +255,9 @@ extern "C" {
  * Boards of 16 and of 256 cpus (of a blob as many as 1,024 properties allow)
  * and 1,024 records nested in each other need the same:
  *                                                 x86-64  aarch64  riscv64
- *   read_tables                                   16,840   16,832   16,760
- *   read_tables_slots                             16,824   16,848   16,776
- *   read_blob                                     49,608   49,584   49,520
+ *   read_tables                                   16,840   16,832   16,664
+ *   read_tables_slots                             16,824   16,848   16,728
+ *   read_blob                                     49,608   49,584   49,568
  */
 #if defined(__aarch64__)
 #define SUNDERWATH_STACK_BYTES 16848
@@ -266,9 +266,9 @@ extern "C" {
 #define SUNDERWATH_SLOT_STACK_BYTES 2176
 #define SUNDERWATH_PLAN_STACK_BYTES 312
 #elif defined(__riscv) && __riscv_xlen == 64
-#define SUNDERWATH_STACK_BYTES 16776
-#define SUNDERWATH_FLAT_STACK_BYTES 880
-#define SUNDERWATH_BLOB_STACK_BYTES 49520
+#define SUNDERWATH_STACK_BYTES 16728
+#define SUNDERWATH_FLAT_STACK_BYTES 928
+#define SUNDERWATH_BLOB_STACK_BYTES 49568
 #define SUNDERWATH_SLOT_STACK_BYTES 2152
 #define SUNDERWATH_PLAN_STACK_BYTES 352
 #elif defined(__x86_64__)

@@ -110,15 +110,18 @@ build() {
 # ---- other processors
 
 # The module as text for another processor: its triple, the data layout that the compiler has for it, no attribute that names a processor
-# of x86-64. RISC-V's calling convention has a returned number of 32 bits extended by its sign: TRIPLE
+# of x86-64. RISC-V's calling convention has a returned number of 32 bits extended by its sign, and a jump table there would hold absolute
+# addresses: TRIPLE
 module_for() {
     local extend='s/^(define [^@]*)i32 @sunderwath_/\1signext i32 @sunderwath_/'
-    case $1 in riscv64*) ;; *) extend='' ;; esac
+    local no_tables='s/^attributes #[0-9]+ = \{/& "no-jump-tables"="true"/'
+    case $1 in riscv64*) ;; *) extend='' no_tables='' ;; esac
     "$clang" -Wno-override-module -x ir "$module" -S -emit-llvm -o - | sed -E \
         -e '/^target datalayout = /d' \
         -e "s/^target triple = .*/target triple = \"$1\"/" \
         -e 's/ "(target-cpu|target-features|tune-cpu)"="[^"]*"//g' \
-        -e "$extend"
+        -e "$extend" \
+        -e "$no_tables"
 }
 
 # Compiles the module: FOLDER TRIPLE OPTIONS
