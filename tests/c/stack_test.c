@@ -31,7 +31,7 @@
 #if defined(__aarch64__)
 #define ORDINARY_BYTES 16848
 #elif defined(__riscv)
-#define ORDINARY_BYTES 16728
+#define ORDINARY_BYTES 16720
 #else
 #define ORDINARY_BYTES 16840
 #endif
