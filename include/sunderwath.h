@@ -255,8 +255,8 @@ extern "C" {
  * Boards of 16 and of 256 cpus (of a blob as many as 1,024 properties allow)
  * and 1,024 records nested in each other need the same:
  *                                                 x86-64  aarch64  riscv64
- *   read_tables                                   16,840   16,832   16,656
- *   read_tables_slots                             16,824   16,848   16,720
+ *   read_tables                                   16,840   16,832   16,664
+ *   read_tables_slots                             16,824   16,848   16,728
  *   read_blob                                     49,608   49,584   49,568
  */
 #if defined(__aarch64__)
@@ -266,7 +266,7 @@ extern "C" {
 #define SUNDERWATH_SLOT_STACK_BYTES 2176
 #define SUNDERWATH_PLAN_STACK_BYTES 312
 #elif defined(__riscv) && __riscv_xlen == 64
-#define SUNDERWATH_STACK_BYTES 16720
+#define SUNDERWATH_STACK_BYTES 16728
 #define SUNDERWATH_FLAT_STACK_BYTES 928
 #define SUNDERWATH_BLOB_STACK_BYTES 49568
 #define SUNDERWATH_SLOT_STACK_BYTES 2152

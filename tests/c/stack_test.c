@@ -31,7 +31,7 @@
 #if defined(__aarch64__)
 #define ORDINARY_BYTES 16848
 #elif defined(__riscv)
-#define ORDINARY_BYTES 16720
+#define ORDINARY_BYTES 16728
 #else
 #define ORDINARY_BYTES 16840
 #endif
@@ -46,8 +46,9 @@
 #define LIST_BYTES 110
 
 /* What the header may state beyond what a call needs: read_tables needs a little
- * less than read_tables_slots, of which the header states the same. */
-#define SLACK 64
+ * less than read_tables_slots, of which the header states the same, and what the
+ * caller lays down differs by 8 or 16 with the optimizer. */
+#define SLACK 80
 
 /* A cpu and its leaf have four properties, the cpus node two. */
 #define MOST_BLOB_CPUS ((SUNDERWATH_BLOB_MAX_PROPERTIES - 2) / 4)
