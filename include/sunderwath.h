@@ -255,27 +255,27 @@ extern "C" {
  * Boards of 16 and of 256 cpus (of a blob as many as 1,024 properties allow)
  * and 1,024 records nested in each other need the same:
  *                                                 x86-64  aarch64  riscv64
- *   read_tables                                   16,840   16,832   16,664
- *   read_tables_slots                             16,824   16,848   16,728
- *   read_blob                                     49,608   49,584   49,568
+ *   read_tables                                   16,808   16,832   16,776
+ *   read_tables_slots                             16,792   16,848   16,840
+ *   read_blob                                     49,576   49,584   49,680
  */
 #if defined(__aarch64__)
 #define SUNDERWATH_STACK_BYTES 16848
 #define SUNDERWATH_FLAT_STACK_BYTES 760
 #define SUNDERWATH_BLOB_STACK_BYTES 49584
-#define SUNDERWATH_SLOT_STACK_BYTES 2176
+#define SUNDERWATH_SLOT_STACK_BYTES 2160
 #define SUNDERWATH_PLAN_STACK_BYTES 312
 #elif defined(__riscv) && __riscv_xlen == 64
-#define SUNDERWATH_STACK_BYTES 16728
-#define SUNDERWATH_FLAT_STACK_BYTES 928
-#define SUNDERWATH_BLOB_STACK_BYTES 49568
+#define SUNDERWATH_STACK_BYTES 16840
+#define SUNDERWATH_FLAT_STACK_BYTES 944
+#define SUNDERWATH_BLOB_STACK_BYTES 49680
 #define SUNDERWATH_SLOT_STACK_BYTES 2152
 #define SUNDERWATH_PLAN_STACK_BYTES 352
 #elif defined(__x86_64__)
-#define SUNDERWATH_STACK_BYTES 16840
+#define SUNDERWATH_STACK_BYTES 16808
 #define SUNDERWATH_FLAT_STACK_BYTES 792
-#define SUNDERWATH_BLOB_STACK_BYTES 49608
-#define SUNDERWATH_SLOT_STACK_BYTES 2176
+#define SUNDERWATH_BLOB_STACK_BYTES 49576
+#define SUNDERWATH_SLOT_STACK_BYTES 2192
 #define SUNDERWATH_PLAN_STACK_BYTES 288
 #endif
 

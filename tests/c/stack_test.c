@@ -31,9 +31,9 @@
 #if defined(__aarch64__)
 #define ORDINARY_BYTES 16848
 #elif defined(__riscv)
-#define ORDINARY_BYTES 16728
-#else
 #define ORDINARY_BYTES 16840
+#else
+#define ORDINARY_BYTES 16808
 #endif
 
 /* Beside what reading its tables takes, the blob call needs the same stack for
@@ -45,10 +45,10 @@
  * sunderwath_list_slot. */
 #define LIST_BYTES 110
 
-/* What the header may state beyond what a call needs: read_tables needs a little
- * less than read_tables_slots, of which the header states the same, and what the
- * caller lays down differs by 8 or 16 with the optimizer. */
-#define SLACK 80
+/* What the header may state beyond what a call needs: of read_tables and
+ * read_tables_slots one needs a little less, and the header states the same, and
+ * what the caller lays down differs by 8 or 16 with the optimizer. */
+#define SLACK 72
 
 /* A cpu and its leaf have four properties, the cpus node two. */
 #define MOST_BLOB_CPUS ((SUNDERWATH_BLOB_MAX_PROPERTIES - 2) / 4)

@@ -19,20 +19,21 @@ pub fn survey(width: u32, tables: &Tables, arrays: &mut Arrays) -> Result<Counts
     ensures lists { let b = board_of width tables.now in
         ((survey_fault b).number ≡ 0 → Listed b arrays.old arrays.new) }
 {
+    // Fixed memory, since there is no heap. The arrays stand first, so that their zeros are written once. Of the phandles the first `count` are
+    // those of the cpus found.
+    let mut index = [0u16; INDEX_WORDS];
+    let mut phandles = [0u64; MAX_CPUS];
     wellformed::table_fault(width, tables)?;
     let root = cpus::read_root(width, tables);
     root.checked?;
     let count = cpus::list_cpus(tables, &mut arrays.cpus);
     cpus::count_fault(count)?;
     let listed = &arrays.cpus[..count];
-    let mut index = [0u16; INDEX_WORDS];
     property_index::index_properties(tables.props, tables.pool, &mut index);
     let cells = root.cells;
     let wanted = CpuNumbers::Regs { cells, width };
     cpus::read_numbers(wanted, tables, &index, listed, &mut arrays.regs)?;
     let map = cpumap::find_map(tables)?;
-    // Fixed memory, since there is no heap: the first `count` are those of the cpus found.
-    let mut phandles = [0u64; MAX_CPUS];
     let wanted = CpuNumbers::Phandles;
     cpus::read_numbers(wanted, tables, &index, listed, &mut phandles)?;
     let leaves = leaves::read_tree(

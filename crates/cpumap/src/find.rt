@@ -8,13 +8,15 @@ ghost use Rattle.tables.specs.facts.Board.{node_count};
 ghost use Rattle.cpumap.specs.answers.Find.{is_map_name, is_map, map_of, second_map_fault, map_scan};
 
 use laws::{Broken, Rule, first_broken};
-use tables::{Tables, is_child, name_is};
+use tables::{Tables, is_child, node_word, range_names};
 
 // Whether record i is named `cpu-map`.
 fn is_map_name(tables: &Tables, i: usize) -> bool
     ensures { result ≡ is_map_name tables.now.nodes.now tables.now.pool.now i }
 {
-    name_is(tables, i, b"cpu-map")
+    let offset = node_word(tables.nodes, i, 1);
+    let len = node_word(tables.nodes, i, 2);
+    range_names(tables.pool, offset, len, b"cpu-map")
 }
 
 // Whether record i is a child of record 0 named `cpu-map`.

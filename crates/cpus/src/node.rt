@@ -3,16 +3,16 @@
 ghost use Rattle.std.specs.Prelude.{◌≡◌};
 ghost use Rattle.cpus.specs.answers.Check.{is_cpu_name, is_cpu};
 
-use tables::{Tables, is_child, node_word, range_is};
+use tables::{Tables, is_child, node_word, range_names};
 
 // Whether a name is `cpu` or begins `cpu@`.
 fn is_cpu_name(pool: &[u8], offset: usize, len: usize) -> bool
     ensures { result ≡ is_cpu_name pool.now offset len }
 {
     if len < 4 {
-        return range_is(pool, offset, len, b"cpu");
+        return range_names(pool, offset, len, b"cpu");
     }
-    range_is(pool, offset, 4, b"cpu@")
+    range_names(pool, offset, 4, b"cpu@")
 }
 
 // Whether record i is a cpu record.

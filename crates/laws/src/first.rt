@@ -6,7 +6,8 @@ ghost use Rattle.laws.specs.answers.Told.{number_in, broken_in};
 
 use crate::rules::{Broken, Rule};
 
-// The lowest place below n at which the test tells a broken rule.
+// The lowest place below n at which the test tells a broken rule. Inlined, so that the test knows that the place is below n.
+#[inline(always)]
 pub fn first_broken<F: Fn(usize) -> Result<(), Rule>>(n: usize, check: F) -> Result<(), Broken>
     requires { F.IsAlwaysCallable check }
     ensures { (f : ℕ → ℕ) → ((i : ℕ) (r : _) → i < n → F.post check i r → number_in r ≡ f i) →

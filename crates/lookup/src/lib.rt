@@ -13,7 +13,10 @@ pub fn find_property(props: &[u32], pool: &[u8], node: usize, key: &[u8]) -> Opt
     ensures answer { result ≡ lookup props.now pool.now node key.now }
     ensures finds { FindsIn props.now pool.now node key.now result }
 {
-    (0..props.len() / 5)
-        .find(|k| is_property(props, pool, node, key, *k))
-        .map(|k| found_at(props, k))
+    for k in 0..props.len() / 5 {
+        if is_property(props, pool, node, key, k) {
+            return Some(found_at(props, k));
+        }
+    }
+    None
 }

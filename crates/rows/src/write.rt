@@ -56,8 +56,8 @@ pub fn write_rows(rows: &mut [u32], tables: &Tables, lists: &Lists, slots: Board
         position: position_of(tables, 0),
     };
     // By index, since of what `chunks_exact_mut` lent a proof knows only the length.
-    for (k, leaf) in lists.leaves.iter().enumerate() {
-        let leaf = usize::from(*leaf);
+    for k in 0..lists.leaves.len() {
+        let leaf = usize::from(lists.leaves[k]);
         above = placed_at(tables, node_word(tables.nodes, leaf, 0), above);
         let index = record_at(lists.named, k);
         let cpu = named_cpu(lists, index, slots);

@@ -34,6 +34,6 @@ pub extern "C" fn sunderwath_list_slot(mpidr: u64, list: &[u64], answer: &mut [u
     }
     match affinity::list_slot(mpidr, list) {
         Ok(slot) => put_answer(answer, CLEAR, slot, Hash::default()),
-        Err(broken) => put_refusal(answer, tell_broken(broken)),
+        Err(unlisted) => put_refusal(answer, tell_broken(unlisted)),
     }
 }

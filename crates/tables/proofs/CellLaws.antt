@@ -6,12 +6,9 @@ use mathlib.Core.List.{List, [], ◌∷◌}
 use Prim.Native.Nat.{ℕ, suc, ◌+◌, ◌*◌, ◌/◌, ◌%◌, ◌^◌, ◌≤◌, ◌<◌}
 use native.Mathlib.Omega.{arith}
 use lib.Dec.{eqb, leb}
-use lib.ListN.{length, get_or, take, drop, length-drop}
+use lib.ListN.{length, get_or}
 use lib.Seq.{drop-cons}
-use Rattle.std.specs.Array.{IsFirstChunk}
 use Rattle.std.specs.Int.{w32, from_be_bytes}
-use Rattle.std.specs.List.{slice_range}
-use Rattle.std.proofs.lemmas.Slice.{between_to_end}
 use borrow.Author.Tests.{le-leb, lt-leb, leb-true, eqb-true, eqb-false, ne_eqb}
 use Rattle.laws.specs.answers.Same.{same_list}
 use Rattle.laws.proofs.SameLaws.{same_refl, same_equal}
@@ -114,16 +111,10 @@ cell_missing pool at lt = cell_outside pool at (lt-leb (at + 4) (length pool) lt
 
 -- four bytes from a place on, joined
 pub cell_read :
-    (at : ℕ) (pool rest chunk : List ℕ) →
-    at ≤ length pool →
-    rest ≡ slice_range pool at (length pool) →
-    IsFirstChunk rest chunk 4 →
-    from_be_bytes w32 chunk ≡ cell_at pool at
-cell_read at pool rest chunk inside part first =
-    let whole : rest ≡ drop at pool = part ∙ between_to_end pool at (length pool) (omega arith) in
-    let same : chunk ≡ range pool at 4 = first.same ∙ ap (take 4) whole in
-    let long : at + 4 ≤ length pool = omega (arith, first.enough, ap length whole, length-drop at pool) in
-    ap (from_be_bytes w32) (same ∙ four_bytes pool at long) ∙ joined _ _ _ _ ∙ sym (the_cell pool at long)
+    (pool : List ℕ) (at : ℕ) →
+    at + 4 ≤ length pool →
+    from_be_bytes w32 (get_or pool at 0 ∷ get_or pool (at + 1) 0 ∷ get_or pool (at + 2) 0 ∷ get_or pool (at + 3) 0 ∷ []) ≡ cell_at pool at
+cell_read pool at inside = joined _ _ _ _ ∙ sym (the_cell pool at inside)
   where
     joined : (a b c d : ℕ) → from_be_bytes w32 (a ∷ b ∷ c ∷ d ∷ []) ≡ join a b c d
     joined a b c d = omega arith

@@ -1,15 +1,18 @@
 -- SPDX-License-Identifier: BSD-2-Clause OR GPL-2.0-or-later
 -- Words and ranges: what the code that compares them needs. Assumes nothing.
-use mathlib.Core.Path.{◌≡◌, refl, sym, ◌∙◌}
+use mathlib.Core.Path.{◌≡◌, refl, sym, ap, ◌∙◌}
 use mathlib.Core.Bool.{Bool, true, false, cond, ◌&&◌}
 use mathlib.Core.List.{List, [], ◌∷◌}
-use Prim.Native.Nat.{ℕ, ◌+◌, ◌≤◌}
+use Prim.Native.Nat.{ℕ, ◌+◌, ◌≤◌, ◌<◌}
 use native.Mathlib.Nat.{add-zero}
 use native.Mathlib.Omega.{arith}
 use lib.Dec.{eqb, leb}
-use lib.ListN.{length, get_or, drop, length-drop}
+use lib.ListN.{length, get_or, take, drop, length-drop}
 use lib.Seq.{length-take-le}
-use borrow.Author.Tests.{leb-true}
+use Rattle.std.specs.Array.{IsFirstChunk}
+use Rattle.std.specs.List.{slice_range}
+use Rattle.std.proofs.lemmas.Slice.{between_to_end}
+use borrow.Author.Tests.{leb-true, le-leb, lt-leb}
 use Rattle.std.specs.Cmp.Lexicographic.{pointwise}
 use Rattle.laws.specs.answers.Same.{same_list}
 use Rattle.laws.proofs.SameLaws.{same_length}
@@ -32,6 +35,25 @@ other_length pool offset len bytes ne = go (leb (offset + len) (length pool)) re
     go : (t : Bool) → leb (offset + len) (length pool) ≡ t → false ≡ cond t (same_list (range pool offset len) bytes) false
     go true e = sym (same_length _ _ (λ q. ne (sym (range_length pool offset len (leb-true _ _ e)) ∙ q)))
     go false e = refl
+
+-- a range that leaves the pool does not hold the bytes
+pub range_outside : (pool : List ℕ) (offset len : ℕ) (bytes : List ℕ) → length pool < offset + len → false ≡ range_is pool offset len bytes
+unfolding range_is
+range_outside pool offset len bytes lt = rw (lt-leb (offset + len) (length pool) lt) refl
+
+-- the bytes from a place on, and the first of these
+pub range_chunk :
+    (pool rest chunk bytes : List ℕ) (offset len : ℕ) →
+    offset ≤ length pool →
+    rest ≡ slice_range pool offset (length pool) →
+    IsFirstChunk rest chunk len →
+    same_list chunk bytes ≡ range_is pool offset len bytes
+unfolding range_is
+range_chunk pool rest chunk bytes offset len inside part first =
+    let whole : rest ≡ drop offset pool = part ∙ between_to_end pool offset (length pool) (omega arith) in
+    let same : chunk ≡ range pool offset len = first.same ∙ ap (take len) whole in
+    let long : offset + len ≤ length pool = omega (arith, first.enough, ap length whole, length-drop offset pool) in
+    rw (same, le-leb (offset + len) (length pool) long) refl
 
 -- what `==` answers of two slices
 pub same_pointwise : (a b : List ℕ) → pointwise eqb a b ≡ same_list a b

@@ -12,7 +12,7 @@ mod property;
 mod tree;
 mod words;
 
-pub use pool::{cell_at, is_inside, range_is};
+pub use pool::{cell_at, is_inside, range_is, range_names};
 pub use property::{found_at, is_property, record_of};
 pub use tree::{is_below, is_child, name_is, parent_of};
 pub use words::{node_word, prop_word, wide};

@@ -9,7 +9,8 @@ use crate::Found;
 use crate::pool::range_is;
 use crate::words::prop_word;
 
-// Whether property record k is the node's and has the name `key`.
+// Whether property record k is the node's and has the name `key`. Inlined, so that a loop over records tests once that they are in the table.
+#[inline(always)]
 pub fn is_property(props: &[u32], pool: &[u8], node: usize, key: &[u8], k: usize) -> bool
     ensures { result ≡ is_property props.now pool.now node key.now k }
 {

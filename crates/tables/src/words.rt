@@ -10,9 +10,14 @@ pub fn wide(word: u32) -> usize
 }
 
 // A word of record i, each of so many words, 0 outside the table, as the definitions have it. A place that would wrap is outside every table, as is the largest.
+#[inline(always)]
 fn record_word<const WORDS: usize>(table: &[u32], i: usize, field: usize) -> usize
     ensures { result ≡ get_or table.now (WORDS * i + field) 0 }
 {
+    // A word of a whole record is read at once.
+    if field < WORDS && i < table.len() / WORDS {
+        return wide(table[WORDS * i + field]);
+    }
     let at = i.saturating_mul(WORDS).saturating_add(field);
     match table.get(at) {
         Some(word) => wide(*word),
@@ -21,6 +26,7 @@ fn record_word<const WORDS: usize>(table: &[u32], i: usize, field: usize) -> usi
 }
 
 // A word of node record i, 0 outside the table.
+#[inline(always)]
 pub fn node_word(nodes: &[u32], i: usize, field: usize) -> usize
     ensures { result ≡ get_or nodes.now (3 * i + field) 0 }
 {
@@ -28,6 +34,7 @@ pub fn node_word(nodes: &[u32], i: usize, field: usize) -> usize
 }
 
 // A word of property record k, 0 outside the table.
+#[inline(always)]
 pub fn prop_word(props: &[u32], k: usize, field: usize) -> usize
     ensures { result ≡ get_or props.now (5 * k + field) 0 }
 {

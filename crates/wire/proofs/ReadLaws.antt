@@ -2,16 +2,15 @@
 -- Eight bytes of a number, and one number more read behind others. Assumes nothing.
 use mathlib.Core.Path.{◌≡◌, refl, sym, ap, ap₂, ◌∙◌}
 use mathlib.Core.List.{List, [], ◌∷◌, ◌++◌}
-use Prim.Native.Nat.{ℕ, zero, suc, ◌+◌, ◌*◌, ◌≤◌, ◌<◌}
+use Prim.Native.Nat.{ℕ, zero, suc, ◌+◌, ◌-◌, ◌*◌, ◌≤◌, ◌<◌}
 use native.Mathlib.Nat.{mul-zero, mul-suc, add_comm}
 use native.Mathlib.Numerals.{add-one}
 use native.Mathlib.Omega.{arith}
-use lib.ListN.{length, get_or, take, drop, set, length-drop, drop_of_length-le}
-use lib.Seq.{drop-drop, length-take-le}
+use lib.ListN.{length, get_or, take, drop, set, drop_of_length-le}
+use lib.Seq.{take-take, drop-drop, length-take-le}
 use Rattle.std.specs.Array.{IsFirstChunk}
 use Rattle.std.specs.Int.{w64, from_le_bytes}
 use Rattle.std.specs.List.{slice_range}
-use Rattle.std.proofs.lemmas.Slice.{between_to_end}
 use borrow.Author.Tests.{lt-ltb, le-ltb}
 use Rattle.laws.specs.answers.Listed.{laid_over}
 use Rattle.laws.proofs.OverLaws.{over_push}
@@ -60,18 +59,18 @@ number_missing bytes at lt = rw (lt-ltb (length bytes) (at + number_size) lt)
 
 -- eight bytes from a place on, joined
 pub number_read :
-    (at : ℕ) (bytes rest chunk : List ℕ) →
-    at ≤ length bytes →
-    rest ≡ slice_range bytes at (length bytes) →
-    IsFirstChunk rest chunk number_size →
+    (at : ℕ) (bytes chunk : List ℕ) →
+    at + number_size ≤ length bytes →
+    IsFirstChunk (slice_range bytes at (at + number_size)) chunk number_size →
     from_le_bytes w64 chunk ≡ number_at bytes at
-number_read at bytes rest chunk inside part first =
-    let whole : rest ≡ drop at bytes = part ∙ between_to_end bytes at (length bytes) (omega arith) in
-    let same : chunk ≡ take number_size (drop at bytes) = first.same ∙ ap (take number_size) whole in
-    let long : number_size + at ≤ length bytes = omega (arith, first.enough, ap length whole, length-drop at bytes) in
-    number_eight chunk (ap length first.same ∙ length-take-le number_size rest first.enough)
+number_read at bytes chunk inside first =
+    let size : at + number_size - at ≡ number_size = omega arith in
+    let part : slice_range bytes at (at + number_size) ≡ take number_size (drop at bytes) = rw size in
+    let same : chunk ≡ take number_size (drop at bytes) =
+    first.same ∙ ap (take number_size) part ∙ take-take number_size number_size (drop at bytes) (omega arith) in
+    number_eight chunk (ap length first.same ∙ length-take-le number_size (slice_range bytes at (at + number_size)) first.enough)
     ∙ ap number_of same
-    ∙ sym (number_there bytes at (omega arith))
+    ∙ sym (number_there bytes at inside)
 
 -- one number more, the last
 held_more :

@@ -9,10 +9,14 @@ use crate::NUMBER_BYTES;
 pub fn number_at(bytes: &[u8], at: usize) -> u64
     ensures { result ≡ number_at bytes.now at }
 {
-    let Some(rest) = bytes.get(at..) else {
+    // Tests of a length and a last place that are the same from call to call; the part is known to have its eight bytes.
+    if bytes.len() < NUMBER_BYTES {
         return 0;
-    };
-    let Some(number) = rest.first_chunk::<NUMBER_BYTES>() else {
+    }
+    if bytes.len() - NUMBER_BYTES < at {
+        return 0;
+    }
+    let Some(number) = bytes[at..at + NUMBER_BYTES].first_chunk::<NUMBER_BYTES>() else {
         return 0;
     };
     u64::from_le_bytes(*number)

@@ -1,23 +1,31 @@
 -- SPDX-License-Identifier: BSD-2-Clause OR GPL-2.0-or-later
--- `find_property` finds the lowest property of that name: the search passes over those below it. Assumes nothing.
-use mathlib.Core.Path.{◌≡◌}
-use mathlib.Core.Bool.{true, false}
-use Prim.Native.Nat.{ℕ}
-use Rattle.std.proofs.Common.{rules}
-use Rattle.std.proofs.lemmas.Iterator.{first_from_Range}
-use Rattle.tables.specs.answers.Lookup.{is_property}
-use Rattle.lookup.proofs.CodeLookup.{found_first, found_mapped}
+-- `find_property` finds the lowest property of that name: none of the first k records is one. Assumes nothing.
+use Rattle.std.specs.Prelude.{Some}
+use mathlib.Core.Path.{sym, ap, ◌∙◌}
+use native.Mathlib.Omega.{arith}
+use Rattle.laws.proofs.SearchLaws.{lowest_more}
+use Rattle.lookup.proofs.CodeLookup.{found_at_lem, found_none, none_yet}
 use Rattle.lookup.proofs.FindsLaws.{lookup_meets}
 use Rattle.lookup.proofs.find_property.Goals as goal
+
+pub loop-k-init : goal.loop-k-init
+loop-k-init c = none_yet _ _ _ _
+
+pub returns-then-is_property : goal.returns-then-is_property
+returns-then-is_property c =
+    let a = c.args in
+    let found =
+    ap Some c.found_at.ensures
+    ∙ found_at_lem a.props.now a.pool.now a.node a.key.now _ c.loop-k.invariant (sym c.is_property.ensures ∙ c.if-is_property.true) c.loop-k-test.true in
+    let meets = lookup_meets a.props.now a.pool.now a.node a.key.now found in
+    record { answer = meets.0; finds = meets.1 }
+
+pub loop-k-preserved : goal.loop-k-preserved
+loop-k-preserved c = lowest_more _ _ c.loop-k.invariant (sym c.is_property.ensures ∙ c.if-is_property.false)
 
 pub returns : goal.returns
 returns c =
     let a = c.args in
-    let test = is_property a.props.now a.pool.now a.node a.key.now in
-    let first =
-    first_from_Range _ _ _ c.find.result (λ (k : ℕ). test k ≡ true) (λ (k : ℕ). test k ≡ false) c.find.ensures.ran
-    (λ x q k. search rules) (λ x q k. search rules) in
-    let mapped = found_mapped a.props.now c.find.result c.map.result c.map.ensures.cases (λ k found told. search rules) in
-    let answer = found_first a.props.now a.pool.now a.node a.key.now c.find.result c.map.result first mapped in
-    let meets = lookup_meets a.props.now a.pool.now a.node a.key.now answer in
+    let none = found_none a.props.now a.pool.now a.node a.key.now _ (omega arith) c.loop-k.invariant in
+    let meets = lookup_meets a.props.now a.pool.now a.node a.key.now none in
     record { answer = meets.0; finds = meets.1 }

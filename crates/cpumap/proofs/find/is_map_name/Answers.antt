@@ -5,4 +5,4 @@ use Rattle.cpumap.proofs.find.is_map_name.Goals as goal
 
 pub returns : goal.returns
 unfolding is_map_name
-returns c = c.name_is.ensures
+returns c = rw (← c.node_word-offset.ensures, ← c.node_word-len.ensures) c.range_names.ensures

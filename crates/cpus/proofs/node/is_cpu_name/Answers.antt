@@ -17,7 +17,7 @@ alone false = refl
 
 pub returns-then-len-lt4 : goal.returns-then-len-lt4
 unfolding is_cpu_name
-returns-then-len-lt4 c = rw (lt-ltb _ _ c.if-len-lt4.true) (c.range_is.ensures ∙ alone _)
+returns-then-len-lt4 c = rw (lt-ltb _ _ c.if-len-lt4.true) (c.range_names.ensures ∙ alone _)
 
 pub returns : goal.returns
 unfolding is_cpu_name
@@ -25,4 +25,4 @@ returns c =
     let a = c.args in
     let not_short : false ≡ range_is a.pool.now a.offset a.len cpu_word =
     other_length a.pool.now a.offset a.len cpu_word (λ e. omega (arith, e, c.if-len-lt4.false)) in
-    rw (← not_short, le-ltb _ _ c.if-len-lt4.false) c.range_is-2.ensures
+    rw (← not_short, le-ltb _ _ c.if-len-lt4.false) c.range_names-2.ensures

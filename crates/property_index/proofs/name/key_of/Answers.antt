@@ -4,39 +4,39 @@ use mathlib.Core.Path.{sym, ◌∙◌}
 use Rattle.property_index.specs.answers.Index.{key_of}
 use Rattle.property_index.proofs.name.key_of.Goals as goal
 
-pub returns-then-range_is : goal.returns-then-range_is
+pub returns-then-range_names : goal.returns-then-range_names
 unfolding key_of
-returns-then-range_is c = rw (sym c.range_is.ensures ∙ c.if-range_is.true)
+returns-then-range_names c = rw (sym c.range_names.ensures ∙ c.if-range_names.true)
 
-pub returns-then-range_is-2 : goal.returns-then-range_is-2
+pub returns-then-range_names-2 : goal.returns-then-range_names-2
 unfolding key_of
-returns-then-range_is-2 c = rw (sym c.range_is.ensures ∙ c.if-range_is.false, sym c.range_is-2.ensures ∙ c.if-range_is-2.true)
+returns-then-range_names-2 c = rw (sym c.range_names.ensures ∙ c.if-range_names.false, sym c.range_names-2.ensures ∙ c.if-range_names-2.true)
 
-pub returns-then-range_is-3 : goal.returns-then-range_is-3
+pub returns-then-range_names-3 : goal.returns-then-range_names-3
 unfolding key_of
-returns-then-range_is-3 c =
+returns-then-range_names-3 c =
     rw (
-      sym c.range_is.ensures ∙ c.if-range_is.false,
-      sym c.range_is-2.ensures ∙ c.if-range_is-2.false,
-      sym c.range_is-3.ensures ∙ c.if-range_is-3.true,
+      sym c.range_names.ensures ∙ c.if-range_names.false,
+      sym c.range_names-2.ensures ∙ c.if-range_names-2.false,
+      sym c.range_names-3.ensures ∙ c.if-range_names-3.true,
     )
 
-pub returns-then-range_is-4 : goal.returns-then-range_is-4
+pub returns-then-range_names-4 : goal.returns-then-range_names-4
 unfolding key_of
-returns-then-range_is-4 c =
+returns-then-range_names-4 c =
     rw (
-      sym c.range_is.ensures ∙ c.if-range_is.false,
-      sym c.range_is-2.ensures ∙ c.if-range_is-2.false,
-      sym c.range_is-3.ensures ∙ c.if-range_is-3.false,
-      sym c.range_is-4.ensures ∙ c.if-range_is-4.true,
+      sym c.range_names.ensures ∙ c.if-range_names.false,
+      sym c.range_names-2.ensures ∙ c.if-range_names-2.false,
+      sym c.range_names-3.ensures ∙ c.if-range_names-3.false,
+      sym c.range_names-4.ensures ∙ c.if-range_names-4.true,
     )
 
 pub returns : goal.returns
 unfolding key_of
 returns c =
     rw (
-      sym c.range_is.ensures ∙ c.if-range_is.false,
-      sym c.range_is-2.ensures ∙ c.if-range_is-2.false,
-      sym c.range_is-3.ensures ∙ c.if-range_is-3.false,
-      sym c.range_is-4.ensures ∙ c.if-range_is-4.false,
+      sym c.range_names.ensures ∙ c.if-range_names.false,
+      sym c.range_names-2.ensures ∙ c.if-range_names-2.false,
+      sym c.range_names-3.ensures ∙ c.if-range_names-3.false,
+      sym c.range_names-4.ensures ∙ c.if-range_names-4.false,
     )

@@ -3,28 +3,27 @@
 use mathlib.Core.Path.{◌≡◌, sym, ◌∙◌}
 use Prim.Native.Nat.{◌+◌, ◌-◌}
 use native.Mathlib.Omega.{arith}
-use borrow.Author.Tests.{ne_eqb}
-use Rattle.laws.proofs.SearchLaws.{true_false}
 use Rattle.tables.specs.answers.Range.{range_is}
 use Rattle.tables.proofs.CodePool.{other_length, same_pointwise}
 use Rattle.tables.proofs.pool.range_is.Goals as goal
-use Rattle.tables.proofs.pool.range_is.Goals.{then-len-bytes, else-len-bytes}
 
-pub returns-then-is_inside : goal.returns-then-is_inside
+pub returns-then-len-bytes : goal.returns-then-len-bytes
+returns-then-len-bytes c = other_length _ _ _ _ c.if-len-bytes.true
+
+pub returns-then-not-is_inside : goal.returns-then-not-is_inside
 unfolding range_is
-returns-then-is_inside c =
+returns-then-not-is_inside c = rw (sym c.is_inside.ensures ∙ c.if-not-is_inside.true)
+
+pub returns-then-same_last : goal.returns-then-same_last
+unfolding range_is
+returns-then-same_last c =
     let a = c.args in
     let e : a.offset + a.len - a.offset ≡ a.len = omega arith in
-    elim c.if-len-bytes.branch [
-      | then-len-bytes w ↦
-          rw (sym w.is_inside.ensures ∙ sym w.value-is ∙ c.if-is_inside.true) ((rw e at c.eq.ensures) ∙ same_pointwise _ _)
-      | else-len-bytes w ↦ absurd (true_false c.if-is_inside.true (w.value-is ∙ ne_eqb _ _ w.if-len-bytes.false))
-    ]
+    rw (sym c.is_inside.ensures ∙ c.if-not-is_inside.false) ((rw e at c.eq.ensures) ∙ same_pointwise _ _)
 
-pub returns-else-is_inside : goal.returns-else-is_inside
+pub returns-else-same_last : goal.returns-else-same_last
 unfolding range_is
-returns-else-is_inside c =
-    elim c.if-len-bytes.branch [
-      | then-len-bytes w ↦ c.if-is_inside.false ∙ rw (sym w.is_inside.ensures ∙ sym w.value-is ∙ c.if-is_inside.false)
-      | else-len-bytes w ↦ c.if-is_inside.false ∙ other_length _ _ _ _ w.if-len-bytes.false
-    ]
+returns-else-same_last c =
+    let a = c.args in
+    let e : a.offset + a.len - a.offset ≡ a.len = omega arith in
+    rw (sym c.is_inside.ensures ∙ c.if-not-is_inside.false) (c.if-same_last.false ∙ sym (rw e at (c.same_last.ensures c.if-same_last.false)))
